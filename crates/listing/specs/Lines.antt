@@ -1,0 +1,114 @@
+-- A listing line, and what a line with a stored answer comes to. Assumes nothing.
+use Prim.Native.Nat.{ℕ, zero, suc, _+_, _-_, _*_, _/_, _%_, _^_}
+use mathlib.Core.Bool.{Bool, cond, _||_}
+use mathlib.Core.List.{List, [], _∷_, _++_}
+use lib.ListN.{getD}
+use lib.Dec.{eqb, ltb, leb}
+use Rattle.decode.specs.Decode.{decodeOf}
+use Rattle.decode.specs.declared.Inst.{Inst}
+use Rattle.decode.specs.declared.Opcode.{Opcode}
+use Rattle.decode.specs.declared.Opcode.the-variants.{Lui, Auipc, Jal, Jalr, Branch, Load, Store, OpImm, Op, OpImm32, Op32, Fence, Ecall, Ebreak, Invalid}
+use Rattle.listing.specs.Text.{codes}
+use Rattle.listing.specs.declared.Parsed.{Parsed}
+use Rattle.listing.specs.declared.Parsed.the-variants.{Word, Bad}
+use Rattle.listing.specs.declared.Compared.{Compared}
+use Rattle.listing.specs.declared.Compared.the-variants.{Same, Differs}
+use Rattle.listing.specs.declared.Judged.{Judged}
+use Rattle.listing.specs.declared.Judged.the-variants.{NoLine, Same as JSame, Differs as JDiffers}
+
+-- ---- the line of a word
+
+-- the character of a digit below 16: `0` to `9`, then `a` to `f`
+abbrev pub digit : ℕ → ℕ
+digit d = cond (ltb d 10) (48 + d) (87 + d)
+
+-- the last n digits of v in the base, the highest first
+abbrev pub digits : ℕ → ℕ → ℕ → List ℕ
+digits base zero v = []
+digits base (suc n) v = digits base n (v / base) ++ (digit (v % base) ∷ [])
+
+-- the name of a class, in seven characters
+unfoldable pub nameOf : Opcode → List ℕ
+nameOf Lui = codes "Lui    "
+nameOf Auipc = codes "Auipc  "
+nameOf Jal = codes "Jal    "
+nameOf Jalr = codes "Jalr   "
+nameOf Branch = codes "Branch "
+nameOf Load = codes "Load   "
+nameOf Store = codes "Store  "
+nameOf OpImm = codes "OpImm  "
+nameOf Op = codes "Op     "
+nameOf OpImm32 = codes "OpImm32"
+nameOf Op32 = codes "Op32   "
+nameOf Fence = codes "Fence  "
+nameOf Ecall = codes "Ecall  "
+nameOf Ebreak = codes "Ebreak "
+nameOf Invalid = codes "Invalid"
+
+-- the fields of a decoded word, a space (32) between, and a line feed (10)
+unfoldable pub lineOfInst : Inst → List ℕ
+lineOfInst d =
+    digits 16 8 (d .raw)
+    ++ (32 ∷ nameOf (d .opcode))
+    ++ (32 ∷ digits 10 2 (d .rd))
+    ++ (32 ∷ digits 10 2 (d .rs1))
+    ++ (32 ∷ digits 10 2 (d .rs2))
+    ++ (32 ∷ digits 10 1 (d .funct3))
+    ++ (32 ∷ digits 16 2 (d .funct7))
+    ++ (32 ∷ digits 16 16 (d .imm))
+    ++ (10 ∷ [])
+
+abbrev pub lineOf : ℕ → List ℕ
+lineOf raw = lineOfInst (decodeOf raw)
+
+-- ---- the word of a line
+
+-- the value of a lower-case hex digit's character, and 16 for any other
+abbrev pub valueOf : ℕ → ℕ
+valueOf c = cond (ltb c 48) 16 (cond (leb c 57) (c - 48) (cond (ltb c 97) 16 (cond (leb c 102) (c - 87) 16)))
+
+-- w and the hex digits at the next `left` places, as one number; Bad where one is no digit
+unfoldable pub wordFrom : ℕ → ℕ → ℕ → List ℕ → Parsed
+wordFrom zero at w line = Word w
+wordFrom (suc left) at w line =
+    cond (ltb 15 (valueOf (getD line at 0))) Bad
+    (wordFrom left (at + 1) (w * 16 + valueOf (getD line at 0)) line)
+
+-- the word that the first eight characters give
+abbrev pub wordOf : List ℕ → Parsed
+wordOf line = wordFrom 8 0 0 line
+
+-- the word of four bytes, the lowest first
+abbrev pub wordLe : ℕ → ℕ → ℕ → ℕ → ℕ
+wordLe a b c d = a + b * 2 ^ 8 + c * 2 ^ 16 + d * 2 ^ 24
+
+-- ---- two lines
+
+-- a '.' (46) stands for any character
+abbrev pub agrees : ℕ → ℕ → Bool
+agrees stored made = eqb stored 46 || eqb stored made
+
+-- the first of the next `left` places that differs; else n and how many are compared: each but a '.'
+unfoldable pub compareFrom : ℕ → ℕ → ℕ → List ℕ → List ℕ → Compared
+compareFrom zero at n stored made = Same n
+compareFrom (suc left) at n stored made =
+    cond (agrees (getD stored at 0) (getD made at 0))
+    (compareFrom left (at + 1) (n + cond (eqb (getD stored at 0) 46) 0 1) stored made)
+    (Differs at)
+
+abbrev pub compareOf : List ℕ → List ℕ → Compared
+compareOf stored made = compareFrom 48 0 0 stored made
+
+-- ---- a line with a stored answer
+
+abbrev pub ofCompared : ℕ → Compared → Judged
+ofCompared raw (Same n) = JSame n
+ofCompared raw (Differs at) = JDiffers at raw
+
+abbrev pub ofParsed : List ℕ → Parsed → Judged
+ofParsed line (Word raw) = ofCompared raw (compareOf line (lineOf raw))
+ofParsed line Bad = NoLine
+
+-- no line without a word in front and a line feed at its end; else the line against that of its word
+abbrev pub judgeOf : List ℕ → Judged
+judgeOf line = cond (eqb (getD line 47 0) 10) (ofParsed line (wordOf line)) NoLine
