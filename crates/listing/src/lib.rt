@@ -74,7 +74,7 @@ impl Tally {
 }
 
 // The character of a digit.
-fn glyph(d: u64) -> u8
+fn digit_char(d: u64) -> u8
     requires { ⌜ d < 16 ⌝ }
     ensures { λ r. ⌜ r ≡ digit d ⌝ }
 {
@@ -90,7 +90,7 @@ fn put_digits(line: &mut [u8; 48], at: usize, n: usize, base: u64, v: u64)
     let mut rest = v;
     while i > 0 {
         i -= 1;
-        line[at + i] = glyph(rest % base);
+        line[at + i] = digit_char(rest % base);
         rest /= base;
     }
 }

@@ -16,14 +16,14 @@ Inv-loop line₀ at n base v i₀ rest₀ line i rest =
 abbrev μ-loop : tie.MeasureT-loop
 μ-loop line₀ at n base v i₀ rest₀ line i rest = i
 
-glyph-requires : tie.Need-glyph-requires Inv-loop μ-loop
-glyph-requires c κs = omega (arith, mod-lt (c .before .loop .rest) {m = c .before .before .args .base} (omega arith))
+digit-char-requires : tie.Need-digit-char-requires Inv-loop μ-loop
+digit-char-requires c κs = omega (arith, mod-lt (c .before .loop .rest) {m = c .before .before .args .base} (omega arith))
 
 loop-again : tie.Need-loop-again Inv-loop μ-loop
 loop-again c =
     let a = c .before .before .before .args in
     let l = c .before .before .loop in
-    (omega arith, rw (c .glyph .ensures) (digit-put (l .line) (a .at) (l .i) (a .base) (l .rest) (omega arith) ∙ l .inv .1))
+    (omega arith, rw (c .digit-char .ensures) (digit-put (l .line) (a .at) (l .i) (a .base) (l .rest) (omega arith) ∙ l .inv .1))
 
 returns : tie.Need-returns Inv-loop μ-loop
 unfolding putDigits
@@ -38,7 +38,7 @@ put-digits-spec =
     (λ c. search needs)
     (λ c. search needs)
     (λ c. search needs)
-    glyph-requires
+    digit-char-requires
     (λ c. search needs)
     (λ c. search needs)
     (λ c. search needs)

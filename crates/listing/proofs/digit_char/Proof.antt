@@ -1,10 +1,10 @@
 use borrow.Author.Needs.{needs}
 use borrow.Author.Tests.{lt-ltb, le-ltb}
-use Rattle.listing.proofs.glyph.Statement.{statement}
-use Rattle.listing.proofs.glyph.Tie as tie
+use Rattle.listing.proofs.digit_char.Statement.{statement}
+use Rattle.listing.proofs.digit_char.Tie as tie
 
-pub glyph-spec : {M : Type 1} → statement M
-glyph-spec =
+pub digit-char-spec : {M : Type 1} → statement M
+digit-char-spec =
     tie.close
     (tie.spec
     (λ c. search needs)
