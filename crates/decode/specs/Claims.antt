@@ -31,6 +31,7 @@ numberOf Ecall = 0x73
 numberOf Ebreak = 0x73
 numberOf Invalid = 128
 
+-- what the layers above may use of `decodeOf`
 pub record Laws : Type 0 where
   -- the ranges of the fields
   pub rd : (raw : ℕ) → decodeOf raw .rd < 32
@@ -62,13 +63,14 @@ classOf JALR inst = Jalr
 classOf JAL inst = Jal
 classOf SYSTEM inst = cond (eqb inst ECALL) Ecall (cond (eqb inst EBREAK) Ebreak Invalid)
 
--- the major opcodes with an I immediate, and those with a U immediate
+-- the major opcodes to which 002 gives an I immediate
 pub data I-type : Major → Type 0 where
   load : I-type LOAD
   op-imm : I-type OP-IMM
   op-imm-32 : I-type OP-IMM-32
   jalr : I-type JALR
 
+-- those to which it gives a U immediate
 pub data U-type : Major → Type 0 where
   auipc : U-type AUIPC
   lui : U-type LUI
@@ -82,6 +84,7 @@ pub record Word (m : Major) (inst : ℕ) : Type 0 where
 abbrev pub immediate : ℕ → ℤ
 immediate inst = signed 64 (decodeOf inst .imm)
 
+-- 01, "Agreement with the manual": the decoder's part
 pub record Agreement : Type 0 where
   -- every field
   pub rd : (inst : ℕ) → decodeOf inst .rd ≡ manual.rd inst

@@ -73,6 +73,7 @@ pub data Major : Type 0 where
   JAL : Major
   SYSTEM : Major
 
+-- inst[6:0] of a major opcode, as the listings write it
 abbrev pub number : Major → ℕ
 number LOAD = 0b0000011
 number MISC-MEM = 0b0001111

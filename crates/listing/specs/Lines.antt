@@ -58,6 +58,7 @@ lineOfInst d =
     ++ (32 ∷ digits 16 16 (d .imm))
     ++ (10 ∷ [])
 
+-- the line of a word
 abbrev pub lineOf : ℕ → List ℕ
 lineOf raw = lineOfInst (decodeOf raw)
 
@@ -96,15 +97,18 @@ compareFrom (suc left) at n stored made =
     (compareFrom left (at + 1) (n + cond (eqb (getD stored at 0) 46) 0 1) stored made)
     (Differs at)
 
+-- a stored line against a made one, in all 48 places
 abbrev pub compareOf : List ℕ → List ℕ → Compared
 compareOf stored made = compareFrom 48 0 0 stored made
 
 -- ---- a line with a stored answer
 
+-- the judgement of a line that begins with the word raw, by its comparison
 abbrev pub ofCompared : ℕ → Compared → Judged
 ofCompared raw (Same n) = JSame n
 ofCompared raw (Differs at) = JDiffers at raw
 
+-- the judgement of a line, by what it begins with
 abbrev pub ofParsed : List ℕ → Parsed → Judged
 ofParsed line (Word raw) = ofCompared raw (compareOf line (lineOf raw))
 ofParsed line Bad = NoLine
