@@ -1,5 +1,8 @@
 // Input in full parts, where a read that fails is not taken for the end.
+ghost use mathlib.Core.Path.{_≡_};
+ghost use lib.ListN.{length};
 ghost use Rattle.io.specs.Counts.{Counts};
+ghost use Rattle.input.specs.Input.{outcomeOf};
 
 // How many bytes came, and whether the read after them failed.
 pub struct Filled {
@@ -7,14 +10,22 @@ pub struct Filled {
     pub failed: bool,
 }
 
-fn read_once(fd: i32, buf: &mut [u8]) -> Filled
-    ensures { λ r. ⌜ Counts (r .count) (now (buf .exit)) ⌝ }
+// What a read into `buf` that answered `got` comes to.
+fn outcome(got: isize, buf: &[u8]) -> Filled
+    ensures { λ r. ⌜ Counts (r .count) (now (buf .entry)) ⌝ }
+    ensures { λ r. ⌜ r ≡ outcomeOf got (length (now (buf .entry))) ⌝ }
 {
-    let got = libc::read(fd, buf);
     Filled {
         count: io::count(got, buf),
         failed: got < 0,
     }
+}
+
+fn read_once(fd: i32, buf: &mut [u8]) -> Filled
+    ensures { λ r. ⌜ Counts (r .count) (now (buf .exit)) ⌝ }
+{
+    let got = libc::read(fd, buf);
+    outcome(got, buf)
 }
 
 // Reads until `buf` is full, the input ends or a read fails.
