@@ -2,9 +2,13 @@
 // arguments name the lists. It says which lines are wrong (lines count from 1, columns from 0), and
 // ends each list with a line of totals.
 use libc::STDERR_FILENO;
-use libc::STDOUT_FILENO;
 use listing::Judged;
 use listing::Tally;
+use report::say;
+use report::say_differs;
+use report::say_line;
+use report::say_tally;
+use report::wrong_line;
 
 // The tally after the next line of a list; or there is none, or a read failed.
 enum Next {
@@ -13,66 +17,25 @@ enum Next {
     Failed,
 }
 
-fn say(text: &[u8]) {
-    if !io::write_all(STDOUT_FILENO, text) {
-        os::fail(b"standard output");
-    }
-}
-
-fn say_number(n: u64) {
-    if !io::print_decimal(STDOUT_FILENO, n) {
-        os::fail(b"standard output");
-    }
-}
-
-// It takes an array, so that no caller has to prove its length.
-fn say_line(head: &[u8], line: &[u8; 48]) {
-    say(head);
-    say(line);
-}
-
-fn say_place(name: &[u8], number: u64) {
-    say(name);
-    say(b" line ");
-    say_number(number);
-    say(b": ");
-}
-
-fn say_differs(name: &[u8], number: u64, at: usize, stored: &[u8; 48], raw: u32) {
-    say_place(name, number);
-    say(b"differs at column ");
-    say_number(at as u64);
-    say(b"\n");
-    say_line(b"  stored  ", stored);
-    let made = listing::line_of(raw);
-    say_line(b"  decoded ", &made);
-}
-
-fn say_tally(name: &[u8], tally: Tally) {
+fn say_total(name: &[u8], tally: Tally) {
     say(name);
     say(b": ");
-    say_number(tally.lines);
-    say(b" lines, ");
-    say_number(tally.characters);
-    say(b" characters compared, ");
-    say_number(tally.wrong);
-    say(b" wrong\n");
+    say_tally(tally);
 }
 
-// Says what is wrong with a line, and answers the tally after it, whose lines are its number.
+// Says what is wrong with a line, and answers the tally after it.
 fn check_line(name: &[u8], line: &[u8; 48], tally: Tally) -> Tally {
-    let wrong = tally.with_wrong();
     match listing::judge(line) {
         Judged::Same(n) => tally.with_same(n),
         Judged::Differs(at, raw) => {
-            say_differs(name, wrong.lines, at, line, raw);
+            let wrong = tally.with_wrong();
+            say_differs(name, wrong.lines, at);
+            say_line(b"  stored  ", line);
+            let made = listing::line_of(raw);
+            say_line(b"  decoded ", &made);
             wrong
         }
-        Judged::NoLine => {
-            say_place(name, wrong.lines);
-            say(b"not a listing line\n");
-            wrong
-        }
+        Judged::NoLine => wrong_line(name, tally, b"not a listing line"),
     }
 }
 
@@ -88,10 +51,7 @@ fn check_next(fd: i32, name: &[u8], tally: Tally) -> Next {
         return Next::End;
     }
     if got.count < 48 {
-        let cut = tally.with_wrong();
-        say_place(name, cut.lines);
-        say(b"cut short\n");
-        return Next::Line(cut);
+        return Next::Line(wrong_line(name, tally, b"cut short"));
     }
     Next::Line(check_line(name, &line, tally))
 }
@@ -108,7 +68,7 @@ fn check_list(fd: i32, name: &[u8]) {
                 tally = t;
             }
             Next::End => {
-                say_tally(name, tally);
+                say_total(name, tally);
                 return;
             }
             Next::Failed => {
@@ -120,18 +80,12 @@ fn check_list(fd: i32, name: &[u8]) {
 
 fn check_argument(i: usize) {
     let mut path = io::buffer();
-    let n = os::arg(i, &mut path);
-    if os::errno() != 0 {
-        os::fail(b"argument");
-        return;
+    let list = input::open_argument(i, &mut path);
+    let n = list.length;
+    if list.fd >= 0 {
+        check_list(list.fd, &path[..n]);
+        libc::close(list.fd);
     }
-    let fd = os::open_read(&path[..n]);
-    if fd < 0 {
-        os::fail(&path[..n]);
-        return;
-    }
-    check_list(fd, &path[..n]);
-    libc::close(fd);
 }
 
 fn main() {

@@ -1,4 +1,5 @@
-// Input in full parts, where a read that fails is not taken for the end.
+// Input in full parts, where a read that fails is not taken for the end, and files that arguments
+// name.
 ghost use mathlib.Core.Path.{_≡_};
 ghost use lib.ListN.{length};
 ghost use Rattle.io.specs.Counts.{Counts};
@@ -8,6 +9,12 @@ ghost use Rattle.input.specs.Input.{outcomeOf};
 pub struct Filled {
     pub count: usize,
     pub failed: bool,
+}
+
+// A file open for reading, and how long its name is; a negative descriptor where it cannot be opened.
+pub struct Opened {
+    pub fd: i32,
+    pub length: usize,
 }
 
 // What a read into `buf` that answered `got` comes to.
@@ -47,4 +54,21 @@ pub fn fill(fd: i32, buf: &mut [u8]) -> Filled
         count: have,
         failed: false,
     }
+}
+
+// Opens the file that argument `i` names, and puts its name into `path`. Why it cannot is told on
+// standard error.
+pub fn open_argument(i: usize, path: &mut [u8]) -> Opened
+    ensures { λ r. ⌜ Counts (r .length) (now (path .exit)) ⌝ }
+{
+    let n = os::arg(i, path);
+    if os::errno() != 0 {
+        os::fail(b"argument");
+        return Opened { fd: -1, length: n };
+    }
+    let fd = os::open_read(&path[..n]);
+    if fd < 0 {
+        os::fail(&path[..n]);
+    }
+    Opened { fd, length: n }
 }

@@ -1,24 +1,25 @@
 -- What a turn of each loop does, and the stores of a line against its text. Assumes nothing.
 use mathlib.Core.Path.{_≡_, refl}
-use mathlib.Core.List.{List}
+use mathlib.Core.List.{List, [], _∷_}
 use Prim.Native.Nat.{ℕ, zero, suc, _+_, _-_, _*_, _/_, _%_, _^_, _<_, _≤_}
 use native.Mathlib.Omega.{arith}
 use native.Mathlib.Numerals.{unary-clauses, add-one}
-use native.Mathlib.Nat.{not-suc-le-zero, add-zero, pow-suc, pow-le-pow-right}
+use native.Mathlib.Nat.{not-suc-le-zero, add-zero, suc-mul, mul-le-mul-right, pow-suc, pow-le-pow-right}
 use lib.ListN.{set, getD}
 use borrow.Author.Tests.{lt-ltb, le-ltb, eq-eqb, ne-eqb}
-use Rattle.listing.specs.declared.Parsed.{Parsed}
-use Rattle.listing.specs.declared.Parsed.the-variants.{Word, Bad}
-use Rattle.listing.specs.declared.Compared.{Compared}
+use Rattle.listing.specs.declared.Parsed.the-variants.{Bad}
 use Rattle.listing.specs.declared.Compared.the-variants.{Same, Differs}
-use Rattle.listing.specs.declared.Judged.the-variants.{NoLine, Same as JSame, Differs as JDiffers}
 use Rattle.decode.specs.declared.Inst.{Inst}
 use Rattle.decode.specs.declared.Opcode.{Opcode}
 use Rattle.decode.specs.declared.Opcode.the-variants.{Lui, Auipc, Jal, Jalr, Branch, Load, Store, OpImm, Op, OpImm32, Op32, Fence, Ecall, Ebreak, Invalid}
-use Rattle.listing.specs.Lines.{digit, nameOf, lineOfInst, lineOf, valueOf, wordFrom, wordOf, compareFrom, compareOf, judgeOf}
-use Rattle.listing.specs.Steps.{putDigits, blankOf}
+use Rattle.expand.specs.declared.RomRow.{RomRow}
+use Rattle.expand.specs.declared.VirtualKind.{VirtualKind}
+use Rattle.expand.specs.declared.VirtualKind.the-variants as kind
+use Rattle.listing.specs.Lines.{digit, digits, nameOf, columns, lineOfInst, valueOf, numberFrom, compareFrom}
+use Rattle.listing.specs.RowLines.{kindName, lineOfRow}
+use Rattle.listing.specs.Steps.{putDigits, putFields, blank}
 
--- ---- the line of a word
+-- ---- the lines of a word and of a row
 
 -- a digit less to put
 pub digit-put : (line : List ℕ) (at i base v : ℕ) → 0 < i → putDigits (set line (at + (i - 1)) (digit (v % base))) at (i - 1) base (v / base) ≡ putDigits line at i base v
@@ -26,97 +27,101 @@ unfolding putDigits
 digit-put line at zero base v h = absurd (not-suc-le-zero h)
 digit-put line at (suc i) base v h = simp unary-clauses
 
--- the numbers of a decoded word, put into the line of a class
-abbrev filled : Opcode → Inst → List ℕ
-filled op d =
-    putDigits (putDigits (putDigits (putDigits (putDigits (putDigits (putDigits (blankOf op)
-    0 8 16 (d .raw))
-    17 2 10 (d .rd))
-    20 2 10 (d .rs1))
-    23 2 10 (d .rs2))
-    26 1 10 (d .funct3))
-    28 2 16 (d .funct7))
-    31 16 16 (d .imm)
+data Seven : List ℕ → Type 0 where
+  seven : (a b c d e f g : ℕ) → Seven (a ∷ b ∷ c ∷ d ∷ e ∷ f ∷ g ∷ [])
 
--- the columns are disjoint, so both are the same 48 characters
-line-filled : (op : Opcode) (d : Inst) → d .opcode ≡ op → filled op d ≡ lineOfInst d
-unfolding nameOf lineOfInst putDigits blankOf
-line-filled Lui d e = rw e refl
-line-filled Auipc d e = rw e refl
-line-filled Jal d e = rw e refl
-line-filled Jalr d e = rw e refl
-line-filled Branch d e = rw e refl
-line-filled Load d e = rw e refl
-line-filled Store d e = rw e refl
-line-filled OpImm d e = rw e refl
-line-filled Op d e = rw e refl
-line-filled OpImm32 d e = rw e refl
-line-filled Op32 d e = rw e refl
-line-filled Fence d e = rw e refl
-line-filled Ecall d e = rw e refl
-line-filled Ebreak d e = rw e refl
-line-filled Invalid d e = rw e refl
+name-seven : (op : Opcode) → Seven (nameOf op)
+unfolding nameOf
+name-seven Lui = seven _ _ _ _ _ _ _
+name-seven Auipc = seven _ _ _ _ _ _ _
+name-seven Jal = seven _ _ _ _ _ _ _
+name-seven Jalr = seven _ _ _ _ _ _ _
+name-seven Branch = seven _ _ _ _ _ _ _
+name-seven Load = seven _ _ _ _ _ _ _
+name-seven Store = seven _ _ _ _ _ _ _
+name-seven OpImm = seven _ _ _ _ _ _ _
+name-seven Op = seven _ _ _ _ _ _ _
+name-seven OpImm32 = seven _ _ _ _ _ _ _
+name-seven Op32 = seven _ _ _ _ _ _ _
+name-seven Fence = seven _ _ _ _ _ _ _
+name-seven Ecall = seven _ _ _ _ _ _ _
+name-seven Ebreak = seven _ _ _ _ _ _ _
+name-seven Invalid = seven _ _ _ _ _ _ _
 
--- the same, store by store
-pub line-made : (d : Inst) {a b e f g h i j : List ℕ} → a ≡ blankOf (d .opcode)
-    → b ≡ putDigits a 0 8 16 (d .raw)
-    → e ≡ putDigits b 17 2 10 (d .rd)
-    → f ≡ putDigits e 20 2 10 (d .rs1)
-    → g ≡ putDigits f 23 2 10 (d .rs2)
-    → h ≡ putDigits g 26 1 10 (d .funct3)
-    → i ≡ putDigits h 28 2 16 (d .funct7)
-    → j ≡ putDigits i 31 16 16 (d .imm) → j ≡ lineOfInst d
-line-made d p q r s t u v w = cc (line-filled (d .opcode) d refl)
+kind-seven : (k : VirtualKind) → Seven (kindName k)
+unfolding kindName
+kind-seven kind.Alu = seven _ _ _ _ _ _ _
+kind-seven (kind.ShiftStage stage) = seven _ _ _ _ _ _ _
+kind-seven kind.Load = seven _ _ _ _ _ _ _
+kind-seven kind.Store = seven _ _ _ _ _ _ _
+kind-seven kind.Branch = seven _ _ _ _ _ _ _
+kind-seven kind.Upper = seven _ _ _ _ _ _ _
+kind-seven kind.Jump = seven _ _ _ _ _ _ _
+kind-seven kind.System = seven _ _ _ _ _ _ _
 
--- ---- the word of a line
+-- the columns are disjoint, so the stores and the text are the same 48 characters
+module _ (raw rd rs1 rs2 funct3 imm v : ℕ) where
+  word-filled : {text : List ℕ} → Seven text
+      → putDigits (putFields (blank text 32) raw rd rs1 rs2 funct3 imm) 28 2 16 v ≡ columns text (digits 16 2 v) raw rd rs1 rs2 funct3 imm
+  unfolding columns putDigits putFields blank
+  word-filled (seven a b c d e f g) = refl
 
--- a hex digit read
-pub digit-read : (line : List ℕ) (i w : ℕ) → i < 8 → valueOf (getD line i 0) ≤ 15 → wordFrom (8 - (i + 1)) (i + 1) (w * 16 + valueOf (getD line i 0)) line ≡ wordFrom (8 - i) i w line
-unfolding wordFrom
-digit-read line i w h d = let e : 8 - i ≡ suc (8 - (i + 1)) = omega arith in rw (e, le-ltb _ _ d)
+  row-filled : {text : List ℕ} → Seven text
+      → putDigits (putFields (blank text 43) raw rd rs1 rs2 funct3 imm) 29 1 10 v ≡ columns text (43 ∷ digits 10 1 v) raw rd rs1 rs2 funct3 imm
+  unfolding columns putDigits putFields blank
+  row-filled (seven a b c d e f g) = refl
 
-pub no-digit : (line : List ℕ) (i w : ℕ) → i < 8 → 15 < valueOf (getD line i 0) → Bad ≡ wordFrom (8 - i) i w line
-unfolding wordFrom
-no-digit line i w h d = let e : 8 - i ≡ suc (8 - (i + 1)) = omega arith in rw (e, lt-ltb _ _ d)
+pub line-made : (d : Inst) {a b e : List ℕ} → a ≡ blank (nameOf (d .opcode)) 32
+    → b ≡ putFields a (d .raw) (d .rd) (d .rs1) (d .rs2) (d .funct3) (d .imm)
+    → e ≡ putDigits b 28 2 16 (d .funct7) → e ≡ lineOfInst d
+line-made d p q r = cc (word-filled (d .raw) (d .rd) (d .rs1) (d .rs2) (d .funct3) (d .imm) (d .funct7) (name-seven (d .opcode)))
 
--- a word of i digits, and one more
-pub digit-fits : (i w d : ℕ) → i < 8 → w < 16 ^ i → d ≤ 15 → (w * 16 + d < 16 ^ (i + 1)) × (w * 16 + d < 2 ^ 32)
-digit-fits i w d h k l =
-    let p : 16 ^ (i + 1) ≡ 16 ^ i * 16 = rw add-one (pow-suc 16 i) in
-    let m : 16 ^ i ≤ 16 ^ 7 = pow-le-pow-right (omega arith) {i = i} {j = 7} (omega arith) in
-    (omega arith, omega arith)
+pub row-made : (r : RomRow) (k : ℕ) {a b e : List ℕ} → a ≡ blank (kindName (r .kind)) 43
+    → b ≡ putFields a (r .raw) (r .rd) (r .rs1) (r .rs2) (r .funct3) (r .imm)
+    → e ≡ putDigits b 29 1 10 k → e ≡ lineOfRow r k
+row-made r k p q s = cc (row-filled (r .raw) (r .rd) (r .rs1) (r .rs2) (r .funct3) (r .imm) k (kind-seven (r .kind)))
+
+-- ---- the numbers of a line
+
+-- a number of i of the n digits, at the next digit
+module _ (base n i v : ℕ) (h : i < n) where
+  left : n - i ≡ suc (n - (i + 1))
+  left = omega arith
+
+  pub digit-read : (line : List ℕ) (at : ℕ) → valueOf (getD line (at + i) 0) < base
+      → numberFrom base (n - (i + 1)) (at + (i + 1)) (v * base + valueOf (getD line (at + i) 0)) line ≡ numberFrom base (n - i) (at + i) v line
+  unfolding numberFrom
+  digit-read line at d = let f : at + (i + 1) ≡ at + i + 1 = omega arith in rw (left, f, lt-ltb _ _ d)
+
+  pub no-digit : (line : List ℕ) (at : ℕ) → base ≤ valueOf (getD line (at + i) 0) → Bad ≡ numberFrom base (n - i) (at + i) v line
+  unfolding numberFrom
+  no-digit line at d = rw (left, le-ltb _ _ d)
+
+  pub digit-fits : (d : ℕ) → v < base ^ i → d < base → base ^ n ≤ 2 ^ 32 → (v * base + d < base ^ (i + 1)) × (v * base + d < 2 ^ 32)
+  digit-fits d k l m =
+      let p : base ^ (i + 1) ≡ base ^ i * base = rw add-one (pow-suc base i) in
+      let q : base ^ (i + 1) ≤ base ^ n = pow-le-pow-right (omega arith) {i = i + 1} {j = n} (omega arith) in
+      let r : suc v * base ≤ base ^ i * base = mul-le-mul-right base (omega arith) in
+      (omega (arith, suc-mul v base), omega (arith, suc-mul v base))
 
 -- ---- two lines
 
 module _ (stored made : List ℕ) (i n : ℕ) (h : i < 48) where
-  e : 48 - i ≡ suc (48 - (i + 1))
-  e = omega arith
+  next : 48 - i ≡ suc (48 - (i + 1))
+  next = omega arith
 
   pub dot-passed : getD stored i 0 ≡ 46 → compareFrom (48 - (i + 1)) (i + 1) n stored made ≡ compareFrom (48 - i) i n stored made
   unfolding compareFrom
-  dot-passed p = rw (e, eq-eqb _ _ p, add-zero)
+  dot-passed p = rw (next, eq-eqb _ _ p, add-zero)
 
   pub place-same : (getD stored i 0 ≡ 46 → ⊥) → getD stored i 0 ≡ getD made i 0 → compareFrom (48 - (i + 1)) (i + 1) (n + 1) stored made ≡ compareFrom (48 - i) i n stored made
   unfolding compareFrom
-  place-same p q = rw (e, ne-eqb _ _ p, eq-eqb _ _ q)
+  place-same p q = rw (next, ne-eqb _ _ p, eq-eqb _ _ q)
 
   pub place-differs : (getD stored i 0 ≡ 46 → ⊥) → (getD stored i 0 ≡ getD made i 0 → ⊥) → Differs i ≡ compareFrom (48 - i) i n stored made
   unfolding compareFrom
-  place-differs p q = rw (e, ne-eqb _ _ p, ne-eqb _ _ q)
+  place-differs p q = rw (next, ne-eqb _ _ p, ne-eqb _ _ q)
 
 pub all-passed : (stored made : List ℕ) (i n : ℕ) → i ≡ 48 → Same n ≡ compareFrom (48 - i) i n stored made
 unfolding compareFrom
 all-passed stored made i n e = rw e
-
--- ---- a line with a stored answer
-
-module _ (line : List ℕ) (feed : getD line 47 0 ≡ 10) where
-  pub no-word : {p : Parsed} → p ≡ wordOf line → p ≡ Bad → NoLine ≡ judgeOf line
-  no-word e b = simp (eq-eqb _ _ feed, ← e, b)
-
-  module _ {raw : ℕ} {made : List ℕ} {p : Parsed} {o : Compared} (e : p ≡ wordOf line) (b : p ≡ Word raw) (l : made ≡ lineOf raw) (k : o ≡ compareOf line made) where
-    pub line-same : {n : ℕ} → o ≡ Same n → JSame n ≡ judgeOf line
-    line-same s = simp (eq-eqb _ _ feed, ← e, b, ← l, ← k, s)
-
-    pub line-differs : {at : ℕ} → o ≡ Differs at → JDiffers at raw ≡ judgeOf line
-    line-differs s = simp (eq-eqb _ _ feed, ← e, b, ← l, ← k, s)

@@ -10,7 +10,7 @@ use Rattle.decode.specs.declared.Opcode.{Opcode}
 use Rattle.decode.specs.declared.Opcode.the-variants.{Lui, Auipc, Jal, Jalr, Branch, Load, Store, OpImm, Op, OpImm32, Op32, Fence, Ecall, Ebreak, Invalid}
 use Rattle.listing.specs.Text.{codes}
 use Rattle.listing.specs.declared.Parsed.{Parsed}
-use Rattle.listing.specs.declared.Parsed.the-variants.{Word, Bad}
+use Rattle.listing.specs.declared.Parsed.the-variants.{Number, Bad}
 use Rattle.listing.specs.declared.Compared.{Compared}
 use Rattle.listing.specs.declared.Compared.the-variants.{Same, Differs}
 use Rattle.listing.specs.declared.Judged.{Judged}
@@ -45,39 +45,46 @@ nameOf Ecall = codes "Ecall  "
 nameOf Ebreak = codes "Ebreak "
 nameOf Invalid = codes "Invalid"
 
--- the fields of a decoded word, a space (32) between, and a line feed (10)
-unfoldable pub lineOfInst : Inst → List ℕ
-lineOfInst d =
-    digits 16 8 (d .raw)
-    ++ (32 ∷ nameOf (d .opcode))
-    ++ (32 ∷ digits 10 2 (d .rd))
-    ++ (32 ∷ digits 10 2 (d .rs1))
-    ++ (32 ∷ digits 10 2 (d .rs2))
-    ++ (32 ∷ digits 10 1 (d .funct3))
-    ++ (32 ∷ digits 16 2 (d .funct7))
-    ++ (32 ∷ digits 16 16 (d .imm))
+-- the columns of a line, a space (32) between: raw in hex, a text of seven characters, three registers and funct3 in
+-- decimal, a text of two characters, the immediate in hex; and a line feed (10)
+unfoldable pub columns : List ℕ → List ℕ → ℕ → ℕ → ℕ → ℕ → ℕ → ℕ → List ℕ
+columns seven two raw rd rs1 rs2 funct3 imm =
+    digits 16 8 raw
+    ++ (32 ∷ seven)
+    ++ (32 ∷ digits 10 2 rd)
+    ++ (32 ∷ digits 10 2 rs1)
+    ++ (32 ∷ digits 10 2 rs2)
+    ++ (32 ∷ digits 10 1 funct3)
+    ++ (32 ∷ two)
+    ++ (32 ∷ digits 16 16 imm)
     ++ (10 ∷ [])
+
+-- the line of a decoded word, with its class and funct7 in hex
+abbrev pub lineOfInst : Inst → List ℕ
+lineOfInst d =
+    columns (nameOf (d .opcode)) (digits 16 2 (d .funct7)) (d .raw) (d .rd) (d .rs1) (d .rs2) (d .funct3) (d .imm)
 
 -- the line of a word
 abbrev pub lineOf : ℕ → List ℕ
 lineOf raw = lineOfInst (decodeOf raw)
 
--- ---- the word of a line
+-- ---- the numbers of a line
 
 -- the value of a lower-case hex digit's character, and 16 for any other
 abbrev pub valueOf : ℕ → ℕ
 valueOf c = cond (ltb c 48) 16 (cond (leb c 57) (c - 48) (cond (ltb c 97) 16 (cond (leb c 102) (c - 87) 16)))
 
--- w and the hex digits at the next `left` places, as one number; Bad where one is no digit
-unfoldable pub wordFrom : ℕ → ℕ → ℕ → List ℕ → Parsed
-wordFrom zero at w line = Word w
-wordFrom (suc left) at w line =
-    cond (ltb 15 (valueOf (getD line at 0))) Bad
-    (wordFrom left (at + 1) (w * 16 + valueOf (getD line at 0)) line)
+-- n and the digits at the next `left` places, as one number; Bad where one is no digit of the base
+unfoldable pub numberFrom : ℕ → ℕ → ℕ → ℕ → List ℕ → Parsed
+numberFrom base zero at n line = Number n
+numberFrom base (suc left) at n line =
+    cond (ltb (valueOf (getD line at 0)) base)
+    (numberFrom base left (at + 1) (n * base + valueOf (getD line at 0)) line)
+    Bad
 
--- the word that the first eight characters give
+-- the word that the first eight characters give, of a line with a line feed at its end
 abbrev pub wordOf : List ℕ → Parsed
-wordOf line = wordFrom 8 0 0 line
+wordOf line = cond (eqb (getD line 47 0) 10) (numberFrom 16 8 0 0 line) Bad
 
 -- the word of four bytes, the lowest first
 abbrev pub wordLe : ℕ → ℕ → ℕ → ℕ → ℕ
@@ -110,9 +117,9 @@ ofCompared raw (Differs at) = JDiffers at raw
 
 -- the judgement of a line, by what it begins with
 abbrev pub ofParsed : List ℕ → Parsed → Judged
-ofParsed line (Word raw) = ofCompared raw (compareOf line (lineOf raw))
+ofParsed line (Number raw) = ofCompared raw (compareOf line (lineOf raw))
 ofParsed line Bad = NoLine
 
 -- no line without a word in front and a line feed at its end; else the line against that of its word
 abbrev pub judgeOf : List ℕ → Judged
-judgeOf line = cond (eqb (getD line 47 0) 10) (ofParsed line (wordOf line)) NoLine
+judgeOf line = ofParsed line (wordOf line)

@@ -5,21 +5,30 @@
 //     00500513 OpImm   10 00 05 0 00 0000000000000005
 //
 // the word in hex from 0, the class from 9, rd, rs1 and rs2 in decimal from 17, 20 and 23, funct3
-// at 26, funct7 in hex from 28 and the immediate in hex from 31.
+// at 26, funct7 in hex from 28 and the immediate in hex from 31. The module `rows` has the line of
+// a ROM row.
+mod rows;
+
+pub use rows::Head;
+pub use rows::Program;
+pub use rows::compare_row;
+pub use rows::head_of;
+pub use rows::program_of;
+pub use rows::row_line_of;
 ghost use mathlib.Core.Path.{_≡_};
 ghost use Prim.Native.Nat.{_+_, _%_, _^_, _≤_, _<_};
-ghost use Rattle.listing.specs.Lines.{digit, lineOf, valueOf, wordOf, wordLe, compareOf, judgeOf};
-ghost use Rattle.listing.specs.Steps.{putDigits, blankOf};
+ghost use Rattle.listing.specs.Lines.{digit, nameOf, lineOf, valueOf, numberFrom, wordOf, wordLe, compareOf, judgeOf};
+ghost use Rattle.listing.specs.Steps.{putDigits, putFields, blank};
 use decode::Opcode;
 
-// What the first eight characters of a line give.
+// What the digits at some places of a line give.
 enum Parsed {
-    Word(u32),
+    Number(u32),
     Bad,
 }
 
 // How many characters were compared, where none differs; else the first place that differs.
-enum Compared {
+pub enum Compared {
     Same(usize),
     Differs(usize),
 }
@@ -61,6 +70,17 @@ impl Tally {
         }
     }
 
+    // So many lines more, that are not compared.
+    pub fn with_lines(self, n: usize) -> Tally
+        ensures { λ r. ⌜ (r .lines ≡ (self .lines + n) % 2 ^ 64) × (r .characters ≡ self .characters) × (r .wrong ≡ self .wrong) ⌝ }
+    {
+        Tally {
+            lines: std::num::wrapping_add_u64(self.lines, n as u64),
+            characters: self.characters,
+            wrong: self.wrong,
+        }
+    }
+
     // One line more, a wrong one.
     pub fn with_wrong(self) -> Tally
         ensures { λ r. ⌜ (r .lines ≡ (self .lines + 1) % 2 ^ 64) × (r .characters ≡ self .characters) × (r .wrong ≡ (self .wrong + 1) % 2 ^ 64) ⌝ }
@@ -95,9 +115,29 @@ fn put_digits(line: &mut [u8; 48], at: usize, n: usize, base: u64, v: u64)
     }
 }
 
+// Puts in the fields that the lines of a word and of a row have in common.
+fn put_fields(
+    line: &mut [u8; 48],
+    raw: u32,
+    rd: usize,
+    rs1: usize,
+    rs2: usize,
+    funct3: u32,
+    imm: u64,
+)
+    ensures { λ _. ⌜ now (line .exit) ≡ putFields (now (line .entry)) raw rd rs1 rs2 funct3 imm ⌝ }
+{
+    put_digits(line, 0, 8, 16, raw as u64);
+    put_digits(line, 17, 2, 10, rd as u64);
+    put_digits(line, 20, 2, 10, rs1 as u64);
+    put_digits(line, 23, 2, 10, rs2 as u64);
+    put_digits(line, 26, 1, 10, funct3 as u64);
+    put_digits(line, 31, 16, 16, imm);
+}
+
 // The line of a class before its numbers are put in.
 fn blank_of(op: Opcode) -> [u8; 48]
-    ensures { λ r. ⌜ r ≡ blankOf op ⌝ }
+    ensures { λ r. ⌜ r ≡ blank (nameOf op) 32 ⌝ }
 {
     match op {
         Opcode::Lui => *b"         Lui                                   \n",
@@ -125,13 +165,8 @@ pub fn line_of(raw: u32) -> [u8; 48]
     let d = decode::decode(raw);
     let op = d.opcode;
     let mut line = blank_of(op);
-    put_digits(&mut line, 0, 8, 16, d.raw as u64);
-    put_digits(&mut line, 17, 2, 10, d.rd as u64);
-    put_digits(&mut line, 20, 2, 10, d.rs1 as u64);
-    put_digits(&mut line, 23, 2, 10, d.rs2 as u64);
-    put_digits(&mut line, 26, 1, 10, d.funct3 as u64);
+    put_fields(&mut line, d.raw, d.rd, d.rs1, d.rs2, d.funct3, d.imm);
     put_digits(&mut line, 28, 2, 16, d.funct7 as u64);
-    put_digits(&mut line, 31, 16, 16, d.imm);
     line
 }
 
@@ -151,21 +186,32 @@ fn value_of(b: u8) -> u32
     if b <= b'f' { b as u32 - 87 } else { 16 }
 }
 
-// The word that a line begins with.
+// The number that `n` digits from `at` on give.
+fn number_at(line: &[u8; 48], at: usize, n: usize, base: u32) -> Parsed
+    requires { ⌜ (at + n ≤ 48) × (base ≤ 16) × (base ^ n ≤ 2 ^ 32) ⌝ }
+    ensures { λ r. ⌜ r ≡ numberFrom base n at 0 (now (line .entry)) ⌝ }
+{
+    let mut number: u32 = 0;
+    let mut i = 0;
+    while i < n {
+        let d = value_of(line[at + i]);
+        if base <= d {
+            return Parsed::Bad;
+        }
+        number = number * base + d;
+        i += 1;
+    }
+    Parsed::Number(number)
+}
+
+// The word that a line begins with; a line has a line feed at its end.
 fn word_of(line: &[u8; 48]) -> Parsed
     ensures { λ r. ⌜ r ≡ wordOf (now (line .entry)) ⌝ }
 {
-    let mut word: u32 = 0;
-    let mut i = 0;
-    while i < 8 {
-        let d = value_of(line[i]);
-        if d > 15 {
-            return Parsed::Bad;
-        }
-        word = word * 16 + d;
-        i += 1;
+    if line[47] != b'\n' {
+        return Parsed::Bad;
     }
-    Parsed::Word(word)
+    number_at(line, 0, 8, 16)
 }
 
 // The word of four bytes, the lowest first.
@@ -198,10 +244,7 @@ fn compare(stored: &[u8; 48], made: &[u8; 48]) -> Compared
 pub fn judge(line: &[u8; 48]) -> Judged
     ensures { λ r. ⌜ r ≡ judgeOf (now (line .entry)) ⌝ }
 {
-    if line[47] != b'\n' {
-        return Judged::NoLine;
-    }
-    let Parsed::Word(raw) = word_of(line) else {
+    let Parsed::Number(raw) = word_of(line) else {
         return Judged::NoLine;
     };
     let made = line_of(raw);

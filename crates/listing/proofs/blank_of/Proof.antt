@@ -1,11 +1,11 @@
 use borrow.Author.Needs.{needs}
 use Rattle.listing.specs.Lines.{nameOf}
-use Rattle.listing.specs.Steps.{blankOf}
+use Rattle.listing.specs.Steps.{blank}
 use Rattle.listing.proofs.blank_of.Statement.{statement}
 use Rattle.listing.proofs.blank_of.Tie as tie
 
 pub blank-of-spec : {M : Type 1} → statement M
-unfolding nameOf blankOf
+unfolding nameOf blank
 blank-of-spec =
     tie.close
     (tie.spec
