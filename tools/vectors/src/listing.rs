@@ -89,7 +89,7 @@ pub fn holds(stored: &[u8]) -> bool {
 }
 
 /// The word that eight lower-case hexadecimal digits name.
-fn raw_word(digits: &[u8]) -> Option<u32> {
+pub fn raw_word(digits: &[u8]) -> Option<u32> {
     digits.iter().try_fold(0, |word, digit| match digit {
         b'0'..=b'9' => Some(word << 4 | u32::from(digit - b'0')),
         b'a'..=b'f' => Some(word << 4 | u32::from(digit - b'a' + 10)),

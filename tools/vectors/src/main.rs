@@ -1,4 +1,5 @@
-//! Makes and tests the lists of decoded words that the port is compared with.
+//! Makes and tests the lists of decoded words and of expanded programs that the
+//! port is compared with.
 
 mod damage;
 mod encode;
@@ -10,11 +11,16 @@ mod listing;
 mod mutate;
 mod objdump;
 mod operands;
+mod programs;
 mod rng;
+mod rowdamage;
+mod rowline;
 mod tempfile;
 mod words;
 mod wordset;
 
+use list::{ListKind, WORDS};
+use rowline::PROGRAMS;
 use std::env;
 use std::ffi::OsString;
 use std::io::{self, Write};
@@ -22,11 +28,23 @@ use std::path::Path;
 use std::process::ExitCode;
 
 const USAGE: &str = "\
-usage: vectors decode                       list the unchanged Rust's answers
-       vectors objdump                      list objdump's answers
-       vectors damage FILE                  write a short, damaged list from FILE
-       vectors mutate PROGRAM FILE COUNT    test that PROGRAM notices changes of FILE
+usage: vectors decode                            list the unchanged Rust's answers
+       vectors objdump                           list objdump's answers
+       vectors damage FILE                       write a short, damaged list from FILE
+       vectors mutate PROGRAM FILE COUNT         test that PROGRAM notices changes of FILE
+       vectors expand                            list the unchanged Rust's expansions
+       vectors damage-rows FILE                  as damage, for a list of expansions
+       vectors mutate-rows PROGRAM FILE COUNT    as mutate, for a list of expansions
 ";
+const COMMANDS: [&str; 7] = [
+    "decode",
+    "objdump",
+    "damage",
+    "mutate",
+    "expand",
+    "damage-rows",
+    "mutate-rows",
+];
 
 /// Why a run did not succeed.
 enum Failure {
@@ -64,11 +82,15 @@ fn run(arguments: &[OsString]) -> Result<ExitCode, Failure> {
     match (command.to_str(), rest) {
         (Some("decode"), []) => print(words::listing().as_bytes()),
         (Some("objdump"), []) => print(objdump::listing()?.as_bytes()),
-        (Some("damage"), [file]) => print(&damage::listing(&list::read(Path::new(file))?)?),
-        (Some("mutate"), [program, file, count]) => mutations(program, file, count),
-        (Some("decode" | "objdump" | "damage" | "mutate"), _) => Err(Failure::Call(format!(
-            "wrong number of arguments for {}",
-            command.display()
+        (Some("damage"), [file]) => print(&damage::listing(&WORDS.read(Path::new(file))?)?),
+        (Some("mutate"), [program, file, count]) => mutations(&WORDS, program, file, count),
+        (Some("expand"), []) => print(programs::listing().as_bytes()),
+        (Some("damage-rows"), [file]) => {
+            print(&rowdamage::listing(&PROGRAMS.read(Path::new(file))?)?)
+        }
+        (Some("mutate-rows"), [program, file, count]) => mutations(&PROGRAMS, program, file, count),
+        (Some(known), _) if COMMANDS.contains(&known) => Err(Failure::Call(format!(
+            "wrong number of arguments for {known}"
         ))),
         _ => Err(Failure::Call(format!(
             "unknown command {}",
@@ -77,7 +99,12 @@ fn run(arguments: &[OsString]) -> Result<ExitCode, Failure> {
     }
 }
 
-fn mutations(program: &OsString, file: &OsString, count: &OsString) -> Result<ExitCode, Failure> {
+fn mutations(
+    kind: &ListKind,
+    program: &OsString,
+    file: &OsString,
+    count: &OsString,
+) -> Result<ExitCode, Failure> {
     let count = match count.to_str().and_then(|text| text.parse().ok()) {
         Some(number) if number > 0 => number,
         _ => {
@@ -88,9 +115,9 @@ fn mutations(program: &OsString, file: &OsString, count: &OsString) -> Result<Ex
         }
     };
     let file = Path::new(file);
-    let list = list::read(file)?;
+    let list = kind.read(file)?;
     mutate::require_silence(program, file)?;
-    let unnoticed = mutate::unnoticed(&list, count, |bytes| mutate::run_on(program, bytes))?;
+    let unnoticed = mutate::unnoticed(kind, &list, count, |bytes| mutate::run_on(program, bytes))?;
     print(mutate::report(count, &unnoticed).as_bytes())?;
     Ok(if unnoticed.is_empty() {
         ExitCode::SUCCESS
@@ -106,4 +133,54 @@ fn print(bytes: &[u8]) -> Result<ExitCode, Failure> {
         .and_then(|()| output.flush())
         .map_err(|error| Failure::Work(format!("standard output: {error}")))?;
     Ok(ExitCode::SUCCESS)
+}
+
+#[cfg(test)]
+mod tests {
+    use super::*;
+    use tempfile::TempFile;
+
+    fn call(arguments: &[&str]) -> Result<ExitCode, Failure> {
+        let arguments: Vec<OsString> = arguments.iter().map(OsString::from).collect();
+        run(&arguments)
+    }
+
+    #[test]
+    fn the_usage_names_every_command() {
+        for command in COMMANDS {
+            assert!(USAGE.contains(&format!(" vectors {command} ")), "{command}");
+            let many = [command, "a", "b", "c", "d"];
+            assert!(matches!(call(&many), Err(Failure::Call(text)) if text.starts_with("wrong")));
+        }
+        let unknown = call(&["expands"]);
+        assert!(matches!(unknown, Err(Failure::Call(text)) if text.starts_with("unknown")));
+    }
+
+    /// The text of a failure that is not a wrong call.
+    fn failure(arguments: &[&str]) -> String {
+        match call(arguments) {
+            Err(Failure::Work(text)) => text,
+            _ => panic!("{arguments:?} does not fail at its work"),
+        }
+    }
+
+    #[test]
+    fn lists_are_read_by_their_kind() {
+        let words = TempFile::new(words::listing().as_bytes()).unwrap();
+        let programs = TempFile::new(programs::listing().as_bytes()).unwrap();
+        for (command, file) in [("damage", &programs), ("damage-rows", &words)] {
+            let text = failure(&[command, file.path().to_str().unwrap()]);
+            assert!(text.contains("is not what the unchanged Rust"), "{text}");
+        }
+    }
+
+    #[test]
+    fn mutate_rows_wants_a_count_and_a_program() {
+        let file = TempFile::new(programs::listing().as_bytes()).unwrap();
+        let path = file.path().to_str().unwrap();
+        let none = call(&["mutate-rows", "true", path, "0"]);
+        assert!(matches!(none, Err(Failure::Call(_))));
+        let text = failure(&["mutate-rows", "no-such-program", path, "1"]);
+        assert!(text.starts_with("no-such-program: "), "{text}");
+    }
 }

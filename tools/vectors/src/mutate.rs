@@ -1,9 +1,11 @@
 //! Tests that a replay program notices a change of any one character of a list.
 
-use crate::listing::{holds, STRIDE, UNCOMPARED, WIDTH};
+use crate::list::ListKind;
+use crate::listing::{STRIDE, UNCOMPARED};
 use crate::rng::Rng;
 use crate::tempfile::TempFile;
 use std::ffi::OsStr;
+use std::ops::Range;
 use std::path::Path;
 use std::process::Command;
 
@@ -11,11 +13,13 @@ use std::process::Command;
 const SEED: u64 = 0x4d55_5441_5445_0001;
 
 /// A change of one character.
-#[derive(Clone, Copy, Debug, PartialEq, Eq)]
+#[derive(Clone, Debug, PartialEq, Eq)]
 pub struct Mutation {
     offset: usize,
     from: u8,
     to: u8,
+    /// The bytes of the part of the list that it makes wrong.
+    part: Range<usize>,
 }
 
 impl Mutation {
@@ -26,6 +30,12 @@ impl Mutation {
 
     fn column(&self) -> usize {
         self.offset % STRIDE + 1
+    }
+
+    /// Whether the output names a line of the part that became wrong.
+    fn is_named(&self, output: &str) -> bool {
+        let mut lines = self.part.start / STRIDE + 1..=self.part.end / STRIDE;
+        lines.any(|line| output.contains(&format!(" line {line}:")))
     }
 }
 
@@ -45,19 +55,21 @@ pub fn require_silence(program: &OsStr, file: &Path) -> Result<(), String> {
 /// Makes the mutations one after another and returns those that the output of
 /// `replay` does not name.
 pub fn unnoticed(
+    kind: &ListKind,
     list: &[u8],
     count: usize,
     replay: impl Fn(&[u8]) -> Result<String, String>,
 ) -> Result<Vec<Mutation>, String> {
+    let parts = kind.parts(list);
     let mut rng = Rng::new(SEED);
     let mut unnoticed = Vec::new();
     let mut changed = list.to_vec();
     for _ in 0..count {
-        let mutation = draw(list, &mut rng);
+        let mutation = draw(kind, list, &parts, &mut rng);
         changed[mutation.offset] = mutation.to;
         let output = replay(&changed)?;
         changed[mutation.offset] = mutation.from;
-        if !output.contains(&format!(" line {}:", mutation.line())) {
+        if !mutation.is_named(&output) {
             unnoticed.push(mutation);
         }
     }
@@ -96,21 +108,26 @@ fn run(program: &OsStr, file: &Path) -> Result<String, String> {
     Ok(String::from_utf8_lossy(&output.stdout).into_owned())
 }
 
-/// A change that a replay has to notice. One that makes a line the right line
-/// of another word is passed over: two words of no opcode, for example, can
-/// differ in raw alone.
-fn draw(list: &[u8], rng: &mut Rng) -> Mutation {
+/// A change that a replay has to notice. One that leaves the list right is
+/// passed over: two words of no opcode, for example, can differ in raw alone.
+fn draw(kind: &ListKind, list: &[u8], parts: &[Range<usize>], rng: &mut Rng) -> Mutation {
     loop {
         let offset = rng.below(list.len());
         let (from, to) = (list[offset], replacement(rng));
         if from == b'\n' || from == UNCOMPARED || to == UNCOMPARED || to == from {
             continue;
         }
-        let start = offset - offset % STRIDE;
-        let mut line = list[start..start + WIDTH].to_vec();
-        line[offset - start] = to;
-        if !holds(&line) {
-            return Mutation { offset, from, to };
+        // The parts are in order, and the first begins with the list.
+        let part = parts[parts.partition_point(|part| part.end <= offset)].clone();
+        let mut changed = list[part.clone()].to_vec();
+        changed[offset - part.start] = to;
+        if (kind.first_wrong)(&changed).is_some() {
+            return Mutation {
+                offset,
+                from,
+                to,
+                part,
+            };
         }
     }
 }
@@ -127,50 +144,82 @@ fn replacement(rng: &mut Rng) -> u8 {
 #[cfg(test)]
 mod tests {
     use super::*;
-    use crate::list;
+    use crate::list::WORDS;
+    use crate::listing::WIDTH;
+    use crate::programs;
+    use crate::rowline::{expansion, PROGRAMS};
     use crate::words;
 
+    fn lists() -> [(ListKind, String); 2] {
+        [(WORDS, words::listing()), (PROGRAMS, programs::listing())]
+    }
+
     /// A replay that compares with the unchanged Rust.
-    fn replay(bytes: &[u8]) -> Result<String, String> {
-        Ok(list::lines(bytes)
-            .enumerate()
-            .filter(|(_, line)| !holds(line))
-            .map(|(index, _)| format!("list line {}: differs\n", index + 1))
-            .collect())
+    fn replay(kind: &ListKind, bytes: &[u8]) -> Result<String, String> {
+        let complaint = |line| format!("list line {line}: differs\n");
+        Ok(kind.wrong_lines(bytes).into_iter().map(complaint).collect())
     }
 
     #[test]
     fn a_good_replay_notices_all() {
-        let list = words::listing();
-        assert_eq!(unnoticed(list.as_bytes(), 50, replay), Ok(Vec::new()));
+        for (kind, list) in lists() {
+            let missed = unnoticed(&kind, list.as_bytes(), 50, |bytes| replay(&kind, bytes));
+            assert_eq!(missed, Ok(Vec::new()));
+        }
         assert_eq!(report(50, &[]), "50 mutations, 0 unnoticed\n");
     }
 
     #[test]
     fn a_silent_replay_is_found_out() {
-        let list = words::listing();
-        let missed = unnoticed(list.as_bytes(), 5, |_| Ok(String::new())).unwrap();
-        assert_eq!(missed.len(), 5);
-        assert!(report(5, &missed).ends_with("5 mutations, 5 unnoticed\n"));
+        for (kind, list) in lists() {
+            let missed = unnoticed(&kind, list.as_bytes(), 5, |_| Ok(String::new())).unwrap();
+            assert_eq!(missed.len(), 5);
+            assert!(report(5, &missed).ends_with("5 mutations, 5 unnoticed\n"));
+        }
     }
 
     #[test]
     fn naming_another_line_does_not_count() {
-        let list = words::listing();
-        let wrong = |bytes: &[u8]| Ok(replay(bytes)?.replace(':', "0:"));
-        assert_eq!(unnoticed(list.as_bytes(), 5, wrong).unwrap().len(), 5);
+        for (kind, list) in lists() {
+            let wrong = |bytes: &[u8]| Ok(replay(&kind, bytes)?.replace(':', "0:"));
+            let missed = unnoticed(&kind, list.as_bytes(), 5, wrong).unwrap();
+            assert_eq!(missed.len(), 5);
+        }
+    }
+
+    #[test]
+    fn any_line_of_the_part_counts() {
+        let list = expansion(&[0x13]) + &expansion(&[0x73]);
+        let parts = PROGRAMS.parts(list.as_bytes());
+        let mut rng = Rng::new(SEED);
+        for _ in 0..100 {
+            let drawn = draw(&PROGRAMS, list.as_bytes(), &parts, &mut rng);
+            let named: Vec<usize> = (0..6)
+                .filter(|line| drawn.is_named(&format!("list line {line}: differs")))
+                .collect();
+            let first = drawn.line() <= 2;
+            assert_eq!(named, if first { [1, 2] } else { [3, 4] });
+        }
     }
 
     #[test]
     fn draws_change_a_compared_character() {
         let list = "0ff0000f Fence   .. .. .. 0 .. ................\n".repeat(3);
-        let mut rng = Rng::new(SEED);
-        for _ in 0..2000 {
-            let drawn = draw(list.as_bytes(), &mut rng);
-            assert_eq!(list.as_bytes()[drawn.offset], drawn.from);
-            assert!(drawn.from != drawn.to && drawn.column() <= WIDTH);
-            assert!(![drawn.from, drawn.to].contains(&UNCOMPARED));
-            assert!(drawn.to == b' ' || drawn.to.is_ascii_graphic());
+        // Most changes of raw leave this program right.
+        let programs = expansion(&[0; 2]);
+        for (kind, list) in [(WORDS, list), (PROGRAMS, programs)] {
+            let parts = kind.parts(list.as_bytes());
+            let mut rng = Rng::new(SEED);
+            for _ in 0..2000 {
+                let drawn = draw(&kind, list.as_bytes(), &parts, &mut rng);
+                assert_eq!(list.as_bytes()[drawn.offset], drawn.from);
+                assert!(drawn.from != drawn.to && drawn.column() <= WIDTH);
+                assert!(![drawn.from, drawn.to].contains(&UNCOMPARED));
+                assert!(drawn.to == b' ' || drawn.to.is_ascii_graphic());
+                let mut changed = list.as_bytes().to_vec();
+                changed[drawn.offset] = drawn.to;
+                assert_ne!(kind.wrong_lines(&changed), []);
+            }
         }
     }
 }

@@ -10,14 +10,14 @@ const SEED: u64 = 0x5256_3634_4c49_5354;
 const RANDOM_PER_OPCODE: usize = 150;
 const RANDOM_WORDS: usize = 1000;
 
-const OPCODE_BITS: u32 = 0x7f;
+pub const OPCODE_BITS: u32 = 0x7f;
 const ECALL: u32 = 0x0000_0073;
 const EBREAK: u32 = 0x0010_0073;
 
 /// The opcode numbers that the source matches, with the immediate format of
 /// each. The last four have no immediate; there the bits of an I immediate are
 /// used, to show that the answer does not depend on them.
-const OPCODES: [(u32, Immediate); 13] = [
+pub const OPCODES: [(u32, Immediate); 13] = [
     (0x37, U),
     (0x17, U),
     (0x6f, J),
@@ -40,7 +40,7 @@ pub fn listing() -> String {
     join(all().into_iter().map(Line::of_source))
 }
 
-fn all() -> Vec<u32> {
+pub fn all() -> Vec<u32> {
     let mut set = WordSet::default();
     set.add(0);
     set.add(u32::MAX);
