@@ -1,0 +1,175 @@
+//! Times the static library beside the unchanged Rust, in one run.
+
+mod mix;
+
+use magnetar_native::testing::{ordinary_word, program, register_shift, Rng};
+use magnetar_native::MAX_WORDS;
+use mix::Mix;
+use std::env;
+use std::process::ExitCode;
+
+const USAGE: &str = "\
+usage: bench [--require] [ROUNDS]    --require: exit 1 also if the test's target is missed
+";
+const ROUNDS: usize = 20;
+const SEED: u64 = 0x4245_4e43;
+/// The library's speed over that of the Rust, for every mix.
+const RATIO_TARGET: f64 = 2.0;
+/// Rows a nanosecond, for the first mix.
+const ROWS_TARGET: f64 = 1.0;
+const MISSED: &str = "missed";
+
+type Word = fn(&mut Rng) -> u32;
+const MIXES: [(&str, Word); 3] = [
+    ("no register shifts", ordinary_word),
+    ("1 in 16, at random", sometimes_shift),
+    ("all register shifts", register_shift),
+];
+
+fn sometimes_shift(rng: &mut Rng) -> u32 {
+    match rng.below(16) {
+        0 => register_shift(rng),
+        _ => ordinary_word(rng),
+    }
+}
+
+fn main() -> ExitCode {
+    if cfg!(debug_assertions) {
+        eprintln!("bench: built with debug assertions, so times mean nothing: use --release");
+        return ExitCode::from(2);
+    }
+    let Some((require, rounds)) = options(env::args().skip(1)) else {
+        eprint!("{USAGE}");
+        return ExitCode::from(2);
+    };
+    match run(rounds).and_then(|missed| judge(missed, require)) {
+        Ok(()) => ExitCode::SUCCESS,
+        Err(message) => {
+            eprintln!("bench: {message}");
+            ExitCode::FAILURE
+        }
+    }
+}
+
+/// A target that was missed. A ratio holds on any machine; a speed does not.
+struct Missed {
+    text: String,
+    is_ratio: bool,
+}
+
+/// An error if a target that counts was missed: a ratio, or any if required.
+fn judge(missed: Vec<Missed>, require: bool) -> Result<(), String> {
+    let counted = missed.iter().filter(|missed| missed.is_ratio || require);
+    let texts: Vec<&str> = counted.map(|missed| missed.text.as_str()).collect();
+    match texts.is_empty() {
+        true => Ok(()),
+        false => Err(format!("targets missed: {}", texts.join("; "))),
+    }
+}
+
+/// Whether the targets are required, and how many rounds to run.
+fn options(arguments: impl Iterator<Item = String>) -> Option<(bool, usize)> {
+    let (mut require, mut rounds) = (false, ROUNDS);
+    for argument in arguments {
+        match argument.as_str() {
+            "--require" => require = true,
+            number => rounds = number.parse().ok().filter(|&number| number > 0)?,
+        }
+    }
+    Some((require, rounds))
+}
+
+/// Prints the tables and gives the targets that were missed.
+fn run(rounds: usize) -> Result<Vec<Missed>, String> {
+    let mut rng = Rng::new(SEED);
+    let mixes = MIXES.map(|(name, word)| Mix::new(name, program(MAX_WORDS, &mut rng, word)));
+    let mut mixes = mixes.into_iter().collect::<Result<Vec<Mix>, String>>()?;
+    for _ in 0..rounds {
+        mixes.iter_mut().for_each(Mix::round);
+    }
+    println!("Programs of {MAX_WORDS} words, release build.");
+    println!("Rust and library in turn, best of {rounds} rounds.");
+    let mut missed = Vec::new();
+    print_expansion(&mixes, &mut missed);
+    print_test(&mixes, &mut missed);
+    Ok(missed)
+}
+
+fn print_expansion(mixes: &[Mix], missed: &mut Vec<Missed>) {
+    println!("\nExpansion, million words/s; target: ratio at least {RATIO_TARGET}");
+    println!("(Rust with what it allocates, library into lent buffers)");
+    println!("                          Rust  library  ratio");
+    for mix in mixes {
+        let name = mix.name;
+        let (source, library) = mix.words_per_microsecond();
+        let ratio = library / source;
+        let state = state(ratio, RATIO_TARGET);
+        if state == MISSED {
+            let text = format!("expansion, {name}: ratio {ratio:.2}, not {RATIO_TARGET}");
+            missed.push(Missed {
+                text,
+                is_ratio: true,
+            });
+        }
+        println!("{name:<22}{source:>8.1}{library:>9.1}{ratio:>7.2}  {state}");
+    }
+}
+
+fn print_test(mixes: &[Mix], missed: &mut Vec<Missed>) {
+    println!("\nTest whether rows are an expansion, library only, rows/ns;");
+    println!("target: at least {ROWS_TARGET} for the first mix, repeated");
+    println!("                          rows  after Rust  repeated");
+    for (number, mix) in mixes.iter().enumerate() {
+        let (name, rows) = (mix.name, mix.rows());
+        let (first, later) = mix.rows_per_nanosecond();
+        let state = match number {
+            0 => state(later, ROWS_TARGET),
+            _ => "no target",
+        };
+        if state == MISSED {
+            let text = format!("test, {name}: {later:.2} rows/ns, not {ROWS_TARGET}");
+            missed.push(Missed {
+                text,
+                is_ratio: false,
+            });
+        }
+        println!("{name:<22}{rows:>8}{first:>12.2}{later:>10.2}  {state}");
+    }
+}
+
+/// Whether a target is met, in a word.
+fn state(value: f64, target: f64) -> &'static str {
+    match value >= target {
+        true => "ok",
+        false => MISSED,
+    }
+}
+
+#[cfg(test)]
+mod tests {
+    use super::*;
+
+    #[test]
+    fn arguments() {
+        let parsed = |text: &str| options(text.split_whitespace().map(str::to_string));
+        assert_eq!(parsed(""), Some((false, ROUNDS)));
+        assert_eq!(parsed("3 --require"), Some((true, 3)));
+        assert_eq!(parsed("0"), None);
+        assert_eq!(parsed("--requires"), None);
+    }
+
+    #[test]
+    fn a_missed_ratio_always_counts() {
+        let missed = |is_ratio| {
+            let text = "a".to_string();
+            vec![Missed { text, is_ratio }]
+        };
+        assert_eq!((state(2.0, 2.0), state(1.9, 2.0)), ("ok", MISSED));
+        assert_eq!(judge(Vec::new(), true), Ok(()));
+        assert_eq!(judge(missed(false), false), Ok(()));
+        for (is_ratio, require) in [(true, false), (true, true), (false, true)] {
+            let judged = judge(missed(is_ratio), require);
+            assert_eq!(judged, Err("targets missed: a".to_string()));
+        }
+    }
+}

@@ -1,0 +1,186 @@
+//! What is lent to a call, with guard words around it, and the comparison of
+//! all of it with what the unchanged Rust says must be there.
+
+use magnetar_native::testing::{Expansion, Rng, ADDI, SLL};
+use magnetar_native::{expand_counting, is_expansion};
+use std::fmt::LowerHex;
+
+const GUARDS: usize = 8;
+
+/// Words with guard words on both sides.
+#[derive(Clone)]
+struct Lent<T> {
+    all: Vec<T>,
+}
+
+impl<T: Copy + PartialEq + LowerHex> Lent<T> {
+    /// `guard` is given the distance from the words, negative before them.
+    fn new(words: &[T], mut guard: impl FnMut(i64) -> T) -> Self {
+        let mut all: Vec<T> = (1..=GUARDS as i64).rev().map(|at| guard(-at)).collect();
+        all.extend(words);
+        all.extend((1..=GUARDS as i64).map(guard));
+        Lent { all }
+    }
+
+    fn words(&self) -> &[T] {
+        &self.all[GUARDS..self.all.len() - GUARDS]
+    }
+
+    fn words_mut(&mut self) -> &mut [T] {
+        let end = self.all.len() - GUARDS;
+        &mut self.all[GUARDS..end]
+    }
+
+    /// An error where a word, or a guard, is not the wanted one.
+    fn compare(&self, wanted: &Self, name: &str) -> Result<(), String> {
+        assert_eq!(self.all.len(), wanted.all.len());
+        let mut pairs = self.all.iter().zip(&wanted.all);
+        match pairs.position(|(found, wanted)| found != wanted) {
+            None => Ok(()),
+            Some(at) => Err(format!(
+                "{name}, place {} of {}: {:#x}, not {:#x}",
+                at as i64 - GUARDS as i64,
+                self.words().len(),
+                self.all[at],
+                wanted.all[at]
+            )),
+        }
+    }
+}
+
+/// All that is lent to an expansion.
+#[derive(Clone)]
+pub struct Memory {
+    program: Lent<u32>,
+    rows: Lent<u64>,
+    starts: Lent<u64>,
+    count: Lent<u64>,
+}
+
+impl Memory {
+    /// Buffers of these lengths, filled with random words.
+    pub fn new(program: &[u32], rows: usize, starts: usize, rng: &mut Rng) -> Self {
+        let program = Lent::new(program, |_| rng.word());
+        let mut buffer = |length| {
+            let words: Vec<u64> = (0..length).map(|_| rng.next()).collect();
+            Lent::new(&words, |_| rng.next())
+        };
+        Memory {
+            program,
+            rows: buffer(rows),
+            starts: buffer(starts),
+            count: buffer(1),
+        }
+    }
+
+    /// The library's answer.
+    pub fn expand(&mut self) -> u64 {
+        expand_counting(
+            self.program.words(),
+            self.rows.words_mut(),
+            self.starts.words_mut(),
+            &mut self.count.words_mut()[0],
+        )
+    }
+
+    /// Calls, and compares the answer and every word with what must be there.
+    pub fn check(
+        mut self,
+        expansion: &Expansion,
+        call: impl Fn(&mut Memory) -> u64,
+    ) -> Result<u64, String> {
+        let wanted_answer = self.refusal(expansion);
+        let mut wanted = self.clone();
+        if wanted_answer == 0 {
+            wanted.write(expansion);
+        }
+        let answer = call(&mut self);
+        if answer != wanted_answer {
+            return Err(format!("answer {answer}, not {wanted_answer}"));
+        }
+        self.program.compare(&wanted.program, "program")?;
+        self.rows.compare(&wanted.rows, "rows")?;
+        self.starts.compare(&wanted.starts, "starts")?;
+        self.count.compare(&wanted.count, "count")?;
+        Ok(answer)
+    }
+
+    /// The table of refusals, lowest number first; 0 is accepted.
+    fn refusal(&self, expansion: &Expansion) -> u64 {
+        let short = |lent: &Lent<u64>, words: &[u64]| lent.words().len() < words.len();
+        match self.program.words().len() {
+            0 => 1,
+            1_048_577.. => 2,
+            _ if short(&self.rows, &expansion.rows) => 6,
+            _ if short(&self.starts, &expansion.starts) => 6,
+            _ => 0,
+        }
+    }
+
+    fn write(&mut self, expansion: &Expansion) {
+        self.rows.words_mut()[..expansion.rows.len()].copy_from_slice(&expansion.rows);
+        self.starts.words_mut()[..expansion.starts.len()].copy_from_slice(&expansion.starts);
+        self.count.words_mut()[0] = expansion.rows.len() as u64;
+    }
+}
+
+/// The library's verdict on rows. The guards go on with the stages of the first
+/// and last row, so that a read outside the rows would find what it hopes for.
+pub fn verdict(rows: &[u64]) -> bool {
+    let ends = (rows.first().unwrap_or(&0), rows.last().unwrap_or(&0));
+    let lent = Lent::new(rows, |at| {
+        let end = if at < 0 { ends.0 } else { ends.1 };
+        end.wrapping_add((at << 32) as u64)
+    });
+    let after = lent.clone();
+    let verdict = is_expansion(after.words());
+    after.compare(&lent, "rows").expect("nothing is written");
+    verdict
+}
+
+/// A wrong expansion is one that spoils what the library did.
+type Spoil = fn(&mut Memory, &mut u64);
+
+/// How many places the buffers have, more than enough or none; how the
+/// comparison's complaint begins; and what it is about.
+const SPOILS: [(usize, &str, Spoil); 12] = [
+    (10, "rows, place 6", five_stages),
+    (10, "starts, place 2", |m, _| m.starts.words_mut()[2] -= 1),
+    (10, "count, place 0", |m, _| m.count.words_mut()[0] += 1),
+    (0, "count, place 0", |m, _| m.count.words_mut()[0] = 8),
+    // Past the counted places, or outside the buffers.
+    (10, "rows, place 8", |m, _| m.rows.words_mut()[8] = 0),
+    (10, "starts, place 3", |m, _| m.starts.words_mut()[3] = 8),
+    (0, "rows, place 0", |m, _| m.rows.all[GUARDS] = 0),
+    (0, "starts, place -1", |m, _| m.starts.all[GUARDS - 1] = 0),
+    (0, "count, place 1", |m, _| m.count.all[GUARDS + 1] = 0),
+    (10, "program, place 0", |m, _| m.program.words_mut()[0] = 0),
+    (10, "answer 6, not 0", |_, answer| *answer = 6),
+    (0, "answer 0, not 6", |_, answer| *answer = 0),
+];
+
+fn five_stages(memory: &mut Memory, _: &mut u64) {
+    memory.rows.words_mut().copy_within(7..8, 6);
+    memory.starts.words_mut()[2] -= 1;
+    memory.count.words_mut()[0] -= 1;
+}
+
+fn spoiled(places: usize, spoil: Spoil) -> Result<u64, String> {
+    let program = [ADDI, SLL, ADDI];
+    let memory = Memory::new(&program, places, places, &mut Rng::new(2));
+    memory.check(&Expansion::of(&program), |memory| {
+        let mut answer = memory.expand();
+        spoil(memory, &mut answer);
+        answer
+    })
+}
+
+#[test]
+fn wrong_expansions_are_noticed() {
+    assert_eq!(spoiled(10, |_, _| ()), Ok(0));
+    assert_eq!(spoiled(0, |_, _| ()), Ok(6));
+    for (places, complaint, spoil) in SPOILS {
+        let error = spoiled(places, spoil).expect_err(complaint);
+        assert!(error.starts_with(complaint), "{complaint}: {error}");
+    }
+}
