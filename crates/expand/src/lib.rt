@@ -95,6 +95,7 @@ fn stage_rd(rd: usize, stage: usize) -> usize
     if stage == SHIFT_STAGES - 1 { rd } else { 0 }
 }
 
+// The rows of the kinds, each with the fields of the instruction that expand.rs takes.
 fn alu_row(i: Inst) -> RomRow
     ensures { λ r. ⌜ r ≡ aluRow i ⌝ }
 {
