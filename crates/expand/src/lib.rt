@@ -1,4 +1,4 @@
-// Microcode expansion, a port of magnetar-cpu's expand.rs: each RV64I word becomes a row of the ROM, and a register
+// Microcode expansion, a port of magnetar-cpu's expand.rs: each instruction word becomes a row of the ROM, and a register
 // shift six, one for each static shift by a power of two. A row is a word, raw + 2^32 * stage.
 ghost use mathlib.Core.Path.{_≡_};
 ghost use Prim.Native.Nat.{_+_, _%_, _^_, _≤_, _<_};
@@ -271,7 +271,8 @@ fn is_reg_shift(v: u64) -> bool
     v & 0x307f == 0x1033
 }
 
-// Whether stages 1 to 5 of the word v follow its row at i. Then the rows are an expansion if those after stage 5 are.
+// Whether stages 1 to 5 of the word v follow its row at i. Then the rows from i on are an expansion if those after stage 5
+// are.
 fn stages_after(rows: &[u64], i: usize, v: u64) -> bool
     requires { ⌜ (i < length (now rows)) × (v < 2 ^ 32) ⌝ }
     ensures { λ r. ⌜ (r ≡ true → i + 6 ≤ length (now (rows .entry))) ⌝ }

@@ -13,11 +13,23 @@ usage: bench [--require] [ROUNDS]    --require: exit 1 also if the test's target
 ";
 const ROUNDS: usize = 20;
 const SEED: u64 = 0x4245_4e43;
+
+/// The least that is wanted. A ratio holds on any machine; a speed does not.
+struct Target {
+    least: f64,
+    is_ratio: bool,
+}
+
 /// The library's speed over that of the Rust, for every mix.
-const RATIO_TARGET: f64 = 2.0;
+const RATIO: Target = Target {
+    least: 2.0,
+    is_ratio: true,
+};
 /// Rows a nanosecond, for the first mix.
-const ROWS_TARGET: f64 = 1.0;
-const MISSED: &str = "missed";
+const ROWS: Target = Target {
+    least: 1.0,
+    is_ratio: false,
+};
 
 type Word = fn(&mut Rng) -> u32;
 const MIXES: [(&str, Word); 3] = [
@@ -51,7 +63,7 @@ fn main() -> ExitCode {
     }
 }
 
-/// A target that was missed. A ratio holds on any machine; a speed does not.
+/// A target that was missed.
 struct Missed {
     text: String,
     is_ratio: bool,
@@ -96,53 +108,48 @@ fn run(rounds: usize) -> Result<Vec<Missed>, String> {
 }
 
 fn print_expansion(mixes: &[Mix], missed: &mut Vec<Missed>) {
-    println!("\nExpansion, million words/s; target: ratio at least {RATIO_TARGET}");
+    println!(
+        "\nExpansion, million words/s; target: ratio at least {}",
+        RATIO.least
+    );
     println!("(Rust with what it allocates, library into lent buffers)");
     println!("                          Rust  library  ratio");
     for mix in mixes {
         let name = mix.name;
         let (source, library) = mix.words_per_microsecond();
         let ratio = library / source;
-        let state = state(ratio, RATIO_TARGET);
-        if state == MISSED {
-            let text = format!("expansion, {name}: ratio {ratio:.2}, not {RATIO_TARGET}");
-            missed.push(Missed {
-                text,
-                is_ratio: true,
-            });
-        }
+        let state = state(&format!("expansion, {name}"), ratio, &RATIO, missed);
         println!("{name:<22}{source:>8.1}{library:>9.1}{ratio:>7.2}  {state}");
     }
 }
 
 fn print_test(mixes: &[Mix], missed: &mut Vec<Missed>) {
     println!("\nTest whether rows are an expansion, library only, rows/ns;");
-    println!("target: at least {ROWS_TARGET} for the first mix, repeated");
+    println!(
+        "target: at least {} for the first mix, repeated",
+        ROWS.least
+    );
     println!("                          rows  after Rust  repeated");
     for (number, mix) in mixes.iter().enumerate() {
         let (name, rows) = (mix.name, mix.rows());
         let (first, later) = mix.rows_per_nanosecond();
         let state = match number {
-            0 => state(later, ROWS_TARGET),
+            0 => state(&format!("test, {name}"), later, &ROWS, missed),
             _ => "no target",
         };
-        if state == MISSED {
-            let text = format!("test, {name}: {later:.2} rows/ns, not {ROWS_TARGET}");
-            missed.push(Missed {
-                text,
-                is_ratio: false,
-            });
-        }
         println!("{name:<22}{rows:>8}{first:>12.2}{later:>10.2}  {state}");
     }
 }
 
-/// Whether a target is met, in a word.
-fn state(value: f64, target: f64) -> &'static str {
-    match value >= target {
-        true => "ok",
-        false => MISSED,
+/// Whether a target is met, in a word; if not, it is added to those missed.
+fn state(name: &str, value: f64, target: &Target, missed: &mut Vec<Missed>) -> &'static str {
+    let Target { least, is_ratio } = *target;
+    if value >= least {
+        return "ok";
     }
+    let text = format!("{name}: {value:.2}, not {least}");
+    missed.push(Missed { text, is_ratio });
+    "missed"
 }
 
 #[cfg(test)]
@@ -158,18 +165,26 @@ mod tests {
         assert_eq!(parsed("--requires"), None);
     }
 
+    fn missed(value: f64, target: &Target) -> Vec<Missed> {
+        let mut missed = Vec::new();
+        let word = state("a", value, target, &mut missed);
+        assert_eq!(word == "missed", missed.len() == 1);
+        missed
+    }
+
     #[test]
     fn a_missed_ratio_always_counts() {
-        let missed = |is_ratio| {
-            let text = "a".to_string();
-            vec![Missed { text, is_ratio }]
-        };
-        assert_eq!((state(2.0, 2.0), state(1.9, 2.0)), ("ok", MISSED));
-        assert_eq!(judge(Vec::new(), true), Ok(()));
-        assert_eq!(judge(missed(false), false), Ok(()));
-        for (is_ratio, require) in [(true, false), (true, true), (false, true)] {
-            let judged = judge(missed(is_ratio), require);
-            assert_eq!(judged, Err("targets missed: a".to_string()));
+        for require in [false, true] {
+            assert_eq!(judge(missed(2.0, &RATIO), require), Ok(()));
+            let judged = judge(missed(1.5, &RATIO), require);
+            assert_eq!(judged, Err("targets missed: a: 1.50, not 2".to_string()));
         }
+    }
+
+    #[test]
+    fn a_missed_speed_counts_where_it_is_required() {
+        assert_eq!(judge(missed(1.0, &ROWS), true), Ok(()));
+        assert_eq!(judge(missed(0.5, &ROWS), false), Ok(()));
+        assert!(judge(missed(0.5, &ROWS), true).is_err());
     }
 }

@@ -1,20 +1,17 @@
 //! What the tests and the benchmark share: programs, and the expansion by the
 //! unchanged Rust that the library is compared with.
 
+use magnetar_source::decode::{decode, Opcode};
 use magnetar_source::expand::{expand_program, VirtualInst, VirtualKind, SHIFT_STAGES};
-
-// The generator of the package `vectors`. It is not an iterator, though one of
-// its functions is called `next`.
-#[allow(clippy::should_implement_trait)]
-#[path = "../../vectors/src/rng.rs"]
-mod rng;
 pub use rng::Rng;
+use std::sync::LazyLock;
 
-/// The opcode numbers that the source matches.
-const OPCODES: [u32; 13] = [
-    0x37, 0x17, 0x6f, 0x67, 0x63, 0x03, 0x23, 0x13, 0x1b, 0x33, 0x3b, 0x0f, 0x73,
-];
 const OPCODE_BITS: u32 = 0x7f;
+/// The opcode numbers that the source gives a class.
+static OPCODES: LazyLock<Vec<u32>> = LazyLock::new(|| {
+    let known = |&number: &u32| decode(number).opcode != Opcode::Invalid;
+    (0..=OPCODE_BITS).filter(known).collect()
+});
 const REGISTER: u32 = 0x33;
 const FUNCT3_AT: u32 = 12;
 const FUNCT3_BITS: u32 = 7 << FUNCT3_AT;

@@ -3,8 +3,8 @@
 use crate::encode::{i, rd, rs1, rs2};
 use crate::forms::{Form, Format, FORMS};
 use crate::immediate::Immediate::{self, B, I, J, S, U};
-use crate::rng::Rng;
 use crate::wordset::WordSet;
+use rng::Rng;
 
 /// Any number would do; it only has to stay the same.
 const SEED: u64 = 0x4f42_4a44_554d_5031;

@@ -12,7 +12,6 @@ mod mutate;
 mod objdump;
 mod operands;
 mod programs;
-mod rng;
 mod rowdamage;
 mod rowline;
 mod tempfile;

@@ -2,8 +2,8 @@
 
 use crate::list::ListKind;
 use crate::listing::{STRIDE, UNCOMPARED};
-use crate::rng::Rng;
 use crate::tempfile::TempFile;
+use rng::Rng;
 use std::ffi::OsStr;
 use std::ops::Range;
 use std::path::Path;

@@ -1,9 +1,9 @@
 //! The fixed set of programs whose expansions by the unchanged Rust are listed.
 
 use crate::encode::{rd, rs1, rs2};
-use crate::rng::Rng;
 use crate::rowline::expansion;
 use crate::words::{self, OPCODES, OPCODE_BITS};
+use rng::Rng;
 
 /// Any number would do; it only has to stay the same.
 const SEED: u64 = 0x4558_5041_4e44_0001;

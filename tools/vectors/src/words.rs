@@ -2,8 +2,8 @@
 
 use crate::immediate::Immediate::{self, B, I, J, S, U};
 use crate::listing::{join, Line};
-use crate::rng::Rng;
 use crate::wordset::WordSet;
+use rng::Rng;
 
 /// Any number would do; it only has to stay the same.
 const SEED: u64 = 0x5256_3634_4c49_5354;

@@ -62,8 +62,8 @@ impl Memory {
     pub fn new(program: &[u32], rows: usize, starts: usize, rng: &mut Rng) -> Self {
         let program = Lent::new(program, |_| rng.word());
         let mut buffer = |length| {
-            let words: Vec<u64> = (0..length).map(|_| rng.next()).collect();
-            Lent::new(&words, |_| rng.next())
+            let words: Vec<u64> = (0..length).map(|_| rng.doubleword()).collect();
+            Lent::new(&words, |_| rng.doubleword())
         };
         Memory {
             program,

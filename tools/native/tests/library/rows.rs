@@ -69,7 +69,7 @@ fn damage(rows: &mut Vec<u64>, rng: &mut Rng) {
         5 => rows[at] = rows[at] & HIGH | u64::from(register_shift(rng)),
         // A later stage by itself.
         6 => rows.insert(at, stage_word(any_word(rng), 1 + rng.below(STAGES))),
-        _ => rows[at] |= rng.next() & HIGH << rng.below(32),
+        _ => rows[at] |= rng.doubleword() & HIGH << rng.below(32),
     }
 }
 
