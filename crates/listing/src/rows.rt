@@ -93,7 +93,6 @@ pub fn head_of(line: &[u8; 48]) -> Head
 }
 
 // A program line has these characters, and a decimal digit for each dot.
-// The counts of a program line, which must be one in every character.
 pub fn program_of(line: &[u8; 48]) -> Program
     ensures { λ r. ⌜ r ≡ programOf (now (line .entry)) ⌝ }
 {
