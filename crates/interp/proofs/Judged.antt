@@ -1,0 +1,93 @@
+-- The tests of the refusals, without a sum or product that could overflow, and what an accepted call has. Assumes nothing.
+use mathlib.Core.Path.{_≡_, refl, sym, _∙_}
+use mathlib.Core.Bool.{Bool, true, false, not, cond, _&&_, false≢true}
+use mathlib.Core.List.{List, _++_}
+use Prim.Native.Nat.{ℕ, _+_, _-_, _*_, _/_, _^_, _≤_, _<_}
+use native.Mathlib.Omega.{arith}
+use lib.Dec.{eqb, ltb}
+use lib.ListN.{length, drop}
+use borrow.Author.Tests.{ltb-true, ltb-false, lt-ltb, le-ltb}
+use Rattle.expand.specs.Expand.{lowest, isExpansion}
+use Rattle.interp.specs.declared.Cursor.{Cursor}
+use Rattle.interp.specs.declared.Refusal.{Refusal}
+use Rattle.interp.specs.declared.Refusal.the-variants.{NoRows, TooManyRows, NoExpansion, OutsideRows, TooManyCycles, Short}
+use Rattle.interp.specs.Machine.{flat}
+use Rattle.interp.specs.Calls.{recorded, end, Call, amount, lent, turn, refusals, refusalOf, settled, answerOf, numberOf}
+
+-- tests that hold together are equal
+same-test : (a b x y : ℕ) → (a < b → x < y) → (b ≤ a → y ≤ x) → ltb a b ≡ ltb x y
+same-test a b x y f g = go (ltb a b) refl
+  where
+    go : (t : Bool) → ltb a b ≡ t → ltb a b ≡ ltb x y
+    go true e = e ∙ sym (lt-ltb x y (f (ltb-true a b e)))
+    go false e = e ∙ sym (le-ltb x y (g (ltb-false a b e)))
+
+pub short-of : (room n : ℕ) → ltb (room / 17) n ≡ ltb room (17 * n)
+short-of room n = same-test (room / 17) n room (17 * n) (λ h. omega arith) (λ h. omega arith)
+
+pub over-of : (cycles n : ℕ) → n ≤ 2 ^ 62 → ltb (2 ^ 62 - n) cycles ≡ ltb (2 ^ 62) (cycles + n)
+over-of cycles n h = same-test (2 ^ 62 - n) cycles (2 ^ 62) (cycles + n) (λ l. omega arith) (λ l. omega arith)
+
+-- ---- what an accepted call has
+
+-- a line that is not returned is not met
+unmet : (b : Bool) (number rest : ℕ) → 0 < number → cond b number rest ≡ 0 → (b ≡ false) × (rest ≡ 0)
+unmet true number rest p e = absurd (omega arith)
+unmet false number rest p e = (refl, e)
+
+both : (a b : Bool) → not (a && b) ≡ false → (a ≡ true) × (b ≡ true)
+both true true e = (refl, refl)
+both true false e = absurd (false≢true (sym e))
+both false b e = absurd (false≢true (sym e))
+
+-- the facts behind the table; the last only of a segment call
+pub record Fits (rows : List ℕ) (c : Cursor) (live : Bool) (n room : ℕ) : Type 0 where
+  pub pc : c .«micro_pc» .0 < length rows
+  pub fetch : c .«next_fetch» .0 < length rows
+  pub few-rows : length rows ≤ 6291456
+  pub room-for : 17 * n ≤ room
+  pub few-cycles : (live && ltb (2 ^ 62) (c .cycles + n)) ≡ false
+
+pub accepted : (rows : List ℕ) (c : Cursor) (live : Bool) (n room : ℕ) → lowest (refusals rows c live n room) ≡ 0 → Fits rows c live n room
+accepted rows c live n room e =
+    let p₁ = unmet (eqb (length rows) 0) 1 _ (omega arith) e in
+    let p₂ = unmet (ltb 6291456 (length rows)) 2 _ (omega arith) (p₁ .1) in
+    let p₃ = unmet (not (isExpansion rows)) 3 _ (omega arith) (p₂ .1) in
+    let p₄ = unmet (not (ltb (c .«micro_pc» .0) (length rows) && ltb (c .«next_fetch» .0) (length rows))) 4 _ (omega arith) (p₃ .1) in
+    let p₅ = unmet (live && ltb (2 ^ 62) (c .cycles + n)) 5 _ (omega arith) (p₄ .1) in
+    let p₆ = unmet (ltb room (17 * n)) 6 _ (omega arith) (p₅ .1) in
+    let inside = both (ltb (c .«micro_pc» .0) (length rows)) (ltb (c .«next_fetch» .0) (length rows)) (p₄ .0) in
+    record {
+      pc = ltb-true _ _ (inside .0);
+      fetch = ltb-true _ _ (inside .1);
+      few-rows = ltb-false _ _ (p₂ .0);
+      room-for = ltb-false _ _ (p₆ .0);
+      few-cycles = p₅ .0;
+    }
+
+-- ---- the answers
+
+refused-leaves : (why : Refusal) (rows : List ℕ) (c : Cursor) (k : Call)
+    → settled (numberOf why) rows c k ≡ record { number = numberOf why; cursor = c; buffer = lent k }
+unfolding settled
+refused-leaves NoRows rows c k = refl
+refused-leaves TooManyRows rows c k = refl
+refused-leaves NoExpansion rows c k = refl
+refused-leaves OutsideRows rows c k = refl
+refused-leaves TooManyCycles rows c k = refl
+refused-leaves Short rows c k = refl
+
+pub refused-answer : (why : Refusal) (rows : List ℕ) (c : Cursor) (k : Call) → numberOf why ≡ refusalOf rows c k
+    → answerOf rows c k ≡ record { number = numberOf why; cursor = c; buffer = lent k }
+unfolding answerOf
+refused-answer why rows c k e = rw (sym e) (refused-leaves why rows c k)
+
+pub accepted-answer : (rows : List ℕ) (c : Cursor) (k : Call) → 0 ≡ refusalOf rows c k
+    → answerOf rows c k
+    ≡ record {
+      number = 0;
+      cursor = end (turn k rows) (amount k) c;
+      buffer = flat (recorded (turn k rows) (amount k) c) ++ drop (17 * amount k) (lent k);
+    }
+unfolding answerOf settled
+accepted-answer rows c k e = rw (sym e) refl

@@ -1,0 +1,9 @@
+pub mod Laws
+pub mod Chain
+pub mod Runs
+pub mod Latest
+pub mod Demand3
+pub mod Lists
+pub mod Judged
+pub mod Loops
+pub mod Halting

@@ -1,0 +1,46 @@
+-- `interp::run_segment` meets its contract. Assumes nothing.
+use mathlib.Core.Path.{refl, ap, sym, _∙_}
+use mathlib.Core.Bool.{true}
+use borrow.Author.Tests.{ltb-false}
+use denote.Ref.{now}
+use lib.ListN.{length}
+use Rattle.interp.specs.Calls.{segment, amount, lent, turn, isSegment, refusalOf, outcomeNumber}
+use Rattle.interp.proofs.Judged.{accepted, refused-answer, accepted-answer}
+use borrow.Author.Needs.{needs}
+use Rattle.interp.proofs.run_segment.Statement.{statement}
+use Rattle.interp.proofs.run_segment.Tie as tie
+
+segment-cycles-requires : tie.Need-segment-cycles-requires
+segment-cycles-requires c κs =
+    let a = c .before .before .before .before .before .before .args in
+    let fits = accepted (now (a .rows)) (a .cursor) true (a .n) (length (now (a .records))) (sym (c .before .before .before .judge .ensures) ∙ ap outcomeNumber (c .before .enum-told2 .given .1)) in
+    record { pc = fits .pc; fetch = fits .fetch; few-rows = fits .few-rows; few-cycles = ltb-false _ _ (fits .few-cycles); fits = fits .room-for }
+
+returns : tie.Need-returns
+unfolding refusalOf isSegment amount lent
+returns c =
+    let a = c .before .before .before .before .before .args in
+    let told = c .enum-told .given .1 in
+    let answer = refused-answer (c .enum-told .given .0 .0) (now (a .rows)) (a .cursor) (segment (a .n) (now (a .records))) (ap outcomeNumber (sym told) ∙ c .before .before .judge .ensures) in
+    (rw (told, answer) refl, (rw answer refl, rw answer refl))
+
+returns-2 : tie.Need-returns-2
+unfolding refusalOf isSegment amount lent turn
+returns-2 c =
+    let a = c .before .before .before .before .before .before .before .before .before .args in
+    let told = c .before .before .before .before .enum-told2 .given .1 in
+    let answer = accepted-answer (now (a .rows)) (a .cursor) (segment (a .n) (now (a .records))) (ap outcomeNumber (sym told) ∙ c .before .before .before .before .before .before .judge .ensures) in
+    let done = c .before .before .segment-cycles .ensures in
+    (rw (told, answer) refl, (rw answer (done .0), rw answer (done .1)))
+
+pub run-segment-spec : {M : Type 1} → statement M
+run-segment-spec =
+    tie.close
+    (tie.spec
+    (λ c κs. search needs)
+    (λ c. search needs)
+    (λ c. search needs)
+    segment-cycles-requires
+    returns
+    (λ c. search needs)
+    returns-2)

@@ -1,0 +1,59 @@
+-- What the private functions of src/lib.rt ask of their arguments, and the two halves of a cursor that the loops work on.
+-- Assumes nothing: these are definitions.
+use Prim.Native.Nat.{ℕ, zero, suc, _+_, _*_, _^_, _≤_, _<_}
+use mathlib.Core.Bool.{cond}
+use mathlib.Core.List.{List}
+use Rattle.expand.specs.declared.RomRow.{RomRow}
+use Rattle.interp.specs.declared.Core.{Core}
+use Rattle.interp.specs.declared.Cursor.{Cursor}
+use Rattle.interp.specs.declared.Effect.{Effect}
+use Rattle.interp.specs.Cycle.{cycle}
+
+-- a row's registers are x0 to x31
+pub record InRange (row : RomRow) : Type 0 where
+  pub rd : row .rd < 32
+  pub rs1 : row .rs1 < 32
+  pub rs2 : row .rs2 < 32
+
+-- an effect's cell is a register cell, its address a RAM word, and its flags are the twelve
+pub record Sound (e : Effect) : Type 0 where
+  pub rd : e .write .rd < 64
+  pub addr : e .access .«ram_addr» < 256
+  pub flags : e .shown .flags < 0x1000
+
+-- a cursor is its numbers and its two arrays
+abbrev pub whole : Core → List ℕ → List ℕ → Cursor
+whole k regs ram =
+    record {
+      regs = regs;
+      ram = ram;
+      «micro_pc» = k .«micro_pc»;
+      cycles = k .cycles;
+      halted = k .halted;
+      output = k .output;
+      «next_fetch» = k .«next_fetch»;
+    }
+
+-- the numbers of a cursor
+abbrev pub coreOf : Cursor → Core
+coreOf c =
+    record {
+      «micro_pc» = c .«micro_pc»;
+      cycles = c .cycles;
+      halted = c .halted;
+      output = c .output;
+      «next_fetch» = c .«next_fetch»;
+    }
+
+-- what an accepted segment call of n cycles has, with so many rows and so many words of room
+pub record Ready (count : ℕ) (k : Core) (n room : ℕ) : Type 0 where
+  pub pc : k .«micro_pc» .0 < count
+  pub fetch : k .«next_fetch» .0 < count
+  pub few-rows : count ≤ 6291456
+  pub few-cycles : k .cycles + n ≤ 2 ^ 62
+  pub fits : 17 * n ≤ room
+
+-- how many of n cycles are live
+unfoldable pub liveCount : List ℕ → ℕ → Cursor → ℕ
+liveCount rows zero c = 0
+liveCount rows (suc n) c = cond (c .halted) 0 (suc (liveCount rows n (cycle rows c .after)))
