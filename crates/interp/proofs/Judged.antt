@@ -12,6 +12,7 @@ use Rattle.interp.specs.declared.Cursor.{Cursor}
 use Rattle.interp.specs.declared.Refusal.{Refusal}
 use Rattle.interp.specs.declared.Refusal.the-variants.{NoRows, TooManyRows, NoExpansion, OutsideRows, TooManyCycles, Short}
 use Rattle.interp.specs.Machine.{flat}
+use Rattle.interp.specs.Code.{coreOf, Ready}
 use Rattle.interp.specs.Calls.{recorded, end, Call, amount, lent, turn, refusals, refusalOf, settled, answerOf, numberOf}
 
 -- tests that hold together are equal
@@ -40,15 +41,13 @@ both true true e = (refl, refl)
 both true false e = absurd (false≢true (sym e))
 both false b e = absurd (false≢true (sym e))
 
--- the facts behind the table; the last only of a segment call
-pub record Fits (rows : List ℕ) (c : Cursor) (live : Bool) (n room : ℕ) : Type 0 where
-  pub pc : c .«micro_pc» .0 < length rows
-  pub fetch : c .«next_fetch» .0 < length rows
-  pub few-rows : length rows ≤ 6291456
-  pub room-for : 17 * n ≤ room
-  pub few-cycles : (live && ltb (2 ^ 62) (c .cycles + n)) ≡ false
+-- only a segment call counts its cycles
+few-of : (live : Bool) (cycles n : ℕ) → (live && ltb (2 ^ 62) (cycles + n)) ≡ false → cond live (cycles + n) 0 ≤ 2 ^ 62
+few-of true cycles n e = ltb-false _ _ e
+few-of false cycles n e = omega arith
 
-pub accepted : (rows : List ℕ) (c : Cursor) (live : Bool) (n room : ℕ) → lowest (refusals rows c live n room) ≡ 0 → Fits rows c live n room
+pub accepted : (rows : List ℕ) (c : Cursor) (live : Bool) (n room : ℕ) → lowest (refusals rows c live n room) ≡ 0
+    → Ready (length rows) (coreOf c) live n room
 accepted rows c live n room e =
     let p₁ = unmet (eqb (length rows) 0) 1 _ (omega arith) e in
     let p₂ = unmet (ltb 6291456 (length rows)) 2 _ (omega arith) (p₁ .1) in
@@ -61,8 +60,8 @@ accepted rows c live n room e =
       pc = ltb-true _ _ (inside .0);
       fetch = ltb-true _ _ (inside .1);
       few-rows = ltb-false _ _ (p₂ .0);
-      room-for = ltb-false _ _ (p₆ .0);
-      few-cycles = p₅ .0;
+      few-cycles = few-of live (c .cycles) n (p₅ .0);
+      fits = ltb-false _ _ (p₆ .0);
     }
 
 -- ---- the answers

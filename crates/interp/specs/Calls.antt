@@ -1,7 +1,7 @@
 -- The segment call and the padding call: their refusals, what each returns and leaves in memory, and lists of them (01,
 -- "Padding cycle, segment call, padding call" and "Joined log and replay"). Assumes nothing: these are definitions.
 use Prim.Native.Nat.{ℕ, zero, suc, _+_, _*_, _^_}
-use mathlib.Core.Bool.{Bool, true, false, not, cond, _&&_}
+use mathlib.Core.Bool.{Bool, true, false, not, _&&_}
 use mathlib.Core.List.{List, [], _∷_, _++_}
 use lib.ListN.{length, take, drop}
 use lib.Dec.{eqb, ltb}
@@ -55,12 +55,12 @@ isSegment (padded n buffer) = false
 
 -- the table of refusals, lowest number first, for a call of n cycles with so many words of room; only a segment call meets 5
 abbrev pub refusals : List ℕ → Cursor → Bool → ℕ → ℕ → List Line
-refusals rows c isSegment n room =
+refusals rows c live n room =
     line 1 (eqb (length rows) 0)
     ∷ line 2 (ltb 6291456 (length rows))
     ∷ line 3 (not (isExpansion rows))
     ∷ line 4 (not (ltb (c .«micro_pc» .0) (length rows) && ltb (c .«next_fetch» .0) (length rows)))
-    ∷ line 5 (isSegment && ltb (2 ^ 62) (c .cycles + n))
+    ∷ line 5 (live && ltb (2 ^ 62) (c .cycles + n))
     ∷ line 6 (ltb room (17 * n))
     ∷ []
 

@@ -1,13 +1,13 @@
 -- What the private functions of src/lib.rt ask of their arguments, and the two halves of a cursor that the loops work on.
 -- Assumes nothing: these are definitions.
-use Prim.Native.Nat.{ℕ, zero, suc, _+_, _*_, _^_, _≤_, _<_}
-use mathlib.Core.Bool.{cond}
+use Prim.Native.Nat.{ℕ, _+_, _*_, _^_, _≤_, _<_}
+use mathlib.Core.Bool.{Bool, cond}
 use mathlib.Core.List.{List}
 use Rattle.expand.specs.declared.RomRow.{RomRow}
 use Rattle.interp.specs.declared.Core.{Core}
 use Rattle.interp.specs.declared.Cursor.{Cursor}
 use Rattle.interp.specs.declared.Effect.{Effect}
-use Rattle.interp.specs.Cycle.{cycle}
+use Rattle.interp.specs.Cycle.{Step, cycle, padding}
 
 -- a row's registers are x0 to x31
 pub record InRange (row : RomRow) : Type 0 where
@@ -45,15 +45,14 @@ coreOf c =
       «next_fetch» = c .«next_fetch»;
     }
 
--- what an accepted segment call of n cycles has, with so many rows and so many words of room
-pub record Ready (count : ℕ) (k : Core) (n room : ℕ) : Type 0 where
+-- what an accepted call of n cycles has, with so many rows and so many words of room; only a segment call counts cycles
+pub record Ready (count : ℕ) (k : Core) (live : Bool) (n room : ℕ) : Type 0 where
   pub pc : k .«micro_pc» .0 < count
   pub fetch : k .«next_fetch» .0 < count
   pub few-rows : count ≤ 6291456
-  pub few-cycles : k .cycles + n ≤ 2 ^ 62
+  pub few-cycles : cond live (k .cycles + n) 0 ≤ 2 ^ 62
   pub fits : 17 * n ≤ room
 
--- how many of n cycles are live
-unfoldable pub liveCount : List ℕ → ℕ → Cursor → ℕ
-liveCount rows zero c = 0
-liveCount rows (suc n) c = cond (c .halted) 0 (suc (liveCount rows n (cycle rows c .after)))
+-- the cycle of a call: of a segment call if live, else of a padding call
+abbrev pub stepOf : Bool → List ℕ → Cursor → Step
+stepOf live rows = cond live (cycle rows) (padding rows)

@@ -1,7 +1,7 @@
 -- One cycle (01, "Cursor and live cycle" and "Padding cycle"). An arm says what a row of its kind does, as an `Effect`; the
 -- record and the next cursor are made of it in one place, so that no arm can record one thing and do another. `a` and `b`
 -- are registers rs1 and rs2 of the row, as in 01. Assumes nothing: these are definitions.
-use Prim.Native.Nat.{ℕ, suc, _+_, _*_, _/_, _%_}
+use Prim.Native.Nat.{ℕ, suc, _+_, _/_, _%_}
 use mathlib.Core.Bool.{Bool, true, false, cond, _&&_, _||_}
 use mathlib.Core.List.{List}
 use lib.ListN.{length, set}

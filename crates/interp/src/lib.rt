@@ -2,17 +2,16 @@
 // words for each cycle into a lent buffer. A cycle is an arm, which says what its row does, and then `commit`.
 ghost use mathlib.Core.Path.{_≡_};
 ghost use Prim.Native.Nat.{suc, _+_, _*_, _%_, _^_, _≤_, _<_};
-ghost use mathlib.Core.Bool.{not, cond, _&&_};
+ghost use mathlib.Core.Bool.{true, not, cond, _&&_};
 ghost use mathlib.Core.List.{_++_};
 ghost use lib.Dec.{eqb, ltb};
 ghost use lib.ListN.{length, drop};
-ghost use Rattle.expand.specs.Rows.{rowOf};
 ghost use Rattle.expand.specs.Expand.{lowest};
 ghost use Rattle.values.specs.Values.{branchTarget};
 ghost use Rattle.interp.specs.Machine.{startOf, words, flat};
-ghost use Rattle.interp.specs.Cycle.{redirect, writes, keeps, noAccess, shows, effect, subFlag, aluFlags, shiftOut, aluArm, stageEffect, stageArm, loadFlag, loadFlags, loadArm, storeArm, branchFlags, branchArm, upperArm, jumpTarget, jumpArm, systemArm, armOf, paddingArm, recordOf, scratched, regsAfter, ramAfter, stepAt, frozenAt, cycle, padding};
+ghost use Rattle.interp.specs.Cycle.{redirect, writes, keeps, noAccess, shows, effect, subFlag, aluFlags, shiftOut, aluArm, stageEffect, stageArm, loadFlag, loadFlags, loadArm, storeArm, branchFlags, branchArm, upperArm, jumpTarget, jumpArm, systemArm, paddingArm, recordOf, scratched, regsAfter, ramAfter, commit, stepAt, frozenAt};
 ghost use Rattle.interp.specs.Calls.{recorded, end, segment, padded, refusals, answerOf, numberOf, outcomeNumber};
-ghost use Rattle.interp.specs.Code.{InRange, Sound, whole, coreOf, liveCount, Ready};
+ghost use Rattle.interp.specs.Code.{InRange, Sound, whole, coreOf, stepOf, Ready};
 ghost use Rattle.interp.specs.Demand3.{Demand3};
 use expand::MicroPc;
 use expand::RomRow;
@@ -209,12 +208,6 @@ pub struct Core {
     pub halted: bool,
     pub output: u64,
     pub next_fetch: MicroPc,
-}
-
-// The numbers after some cycles, and how many cycles.
-pub struct Ran {
-    pub core: Core,
-    pub count: usize,
 }
 
 // ---- the parts of an effect
@@ -551,37 +544,15 @@ fn system_arm(row: RomRow, mp: usize, regs: &[u64; 64]) -> Effect
     let b = regs[rs2];
     let output = regs[10];
     let old = regs[32];
-    Effect {
-        write: Write {
-            rd: 32,
-            rd_val: output,
-            rd_old: old,
-        },
-        access: no_access(),
-        shown: showing(a, b, output, 0, CycleRecord::HALTED_LATCH),
-        scratch: Scratch::Kept,
-        next_pc: mp,
-        halts: true,
-    }
-}
-
-// What the row at `mp` of `count` rows does.
-fn effect_of(row: RomRow, mp: usize, count: usize, regs: &[u64; 64], ram: &[u64; 256]) -> Effect
-    requires { ⌜ InRange row × ((mp < count) × (count ≤ 6291456)) ⌝ }
-    ensures { λ r. ⌜ r ≡ armOf (row .kind) row mp count (now (regs .entry)) (now (ram .entry)) ⌝ }
-{
-    let next = next_row(mp, count);
-    let kind = row.kind;
-    match kind {
-        VirtualKind::Alu => alu_arm(row, next, regs),
-        VirtualKind::ShiftStage { stage } => stage_arm(stage, row, next, regs),
-        VirtualKind::Load => load_arm(row, next, regs, ram),
-        VirtualKind::Store => store_arm(row, next, regs, ram),
-        VirtualKind::Branch => branch_arm(row, mp, count, next, regs),
-        VirtualKind::Upper => upper_arm(row, mp, next, regs),
-        VirtualKind::Jump => jump_arm(row, mp, count, regs),
-        VirtualKind::System => system_arm(row, mp, regs),
-    }
+    let write = Write {
+        rd: 32,
+        rd_val: output,
+        rd_old: old,
+    };
+    let shown = showing(a, b, output, 0, CycleRecord::HALTED_LATCH);
+    let mut e = plain(write, no_access(), shown, mp);
+    e.halts = true;
+    e
 }
 
 // What a padding cycle does: the arm of `frozen_record`.
@@ -687,8 +658,8 @@ fn store(e: Effect, ram: &mut [u64; 256])
     }
 }
 
-// Writes the record of an effect, and then does what it says to registers and RAM.
-fn commit(
+// Writes the record of an effect at row `at`, and then does what it says to registers and RAM.
+fn put_effect(
     row: RomRow,
     at: usize,
     e: Effect,
@@ -718,23 +689,20 @@ fn output_after(halts: bool, shown: u64, output: u64) -> u64
     if halts { shown } else { output }
 }
 
-// One live cycle, `step`, of the row word `word` at micro_pc.
-fn live_cycle(
-    word: u64,
-    count: usize,
+// Ends a live cycle: does what its effect says, and gives the numbers after it.
+fn finish(
+    row: RomRow,
     core: Core,
+    e: Effect,
     regs: &mut [u64; 64],
     ram: &mut [u64; 256],
     out: &mut [u64],
 ) -> Core
-    requires { ⌜ (core .cycles < 2 ^ 62) × ((core .«micro_pc» .0 < count) × ((count ≤ 6291456) × (length (now out) ≡ 17))) ⌝ }
-    ensures { λ r. ⌜ whole r (now (regs .exit)) (now (ram .exit)) ≡ stepAt (rowOf word) count (whole core (now (regs .entry)) (now (ram .entry))) .after ⌝ }
-    ensures { λ _. ⌜ now (out .exit) ≡ words (stepAt (rowOf word) count (whole core (now (regs .entry)) (now (ram .entry))) .shown) ⌝ }
+    requires { ⌜ InRange row × (Sound e × ((core .cycles < 2 ^ 62) × (length (now out) ≡ 17))) ⌝ }
+    ensures { λ r. ⌜ whole r (now (regs .exit)) (now (ram .exit)) ≡ commit row (whole core (now (regs .entry)) (now (ram .entry))) e .after ⌝ }
+    ensures { λ _. ⌜ now (out .exit) ≡ words (commit row (whole core (now (regs .entry)) (now (ram .entry))) e .shown) ⌝ }
 {
-    let row = expand::rom_row(word);
-    let at = core.micro_pc.0;
-    let e = effect_of(row, at, count, regs, ram);
-    commit(row, at, e, regs, ram, out);
+    put_effect(row, core.micro_pc.0, e, regs, ram, out);
     Core {
         micro_pc: MicroPc(e.next_pc),
         cycles: core.cycles + 1,
@@ -744,7 +712,47 @@ fn live_cycle(
     }
 }
 
-// One padding cycle, `frozen_record`, of a row at next_fetch. The numbers of the cursor stay.
+// One live cycle, `step`, of the row at micro_pc. Each arm ends the cycle itself: the compiler then knows which parts of
+// its effect are 0.
+fn live_cycle(
+    row: RomRow,
+    count: usize,
+    core: Core,
+    regs: &mut [u64; 64],
+    ram: &mut [u64; 256],
+    out: &mut [u64],
+) -> Core
+    requires { ⌜ InRange row × ((core .cycles < 2 ^ 62) × ((core .«micro_pc» .0 < count) × ((count ≤ 6291456) × (length (now out) ≡ 17)))) ⌝ }
+    ensures { λ r. ⌜ whole r (now (regs .exit)) (now (ram .exit)) ≡ stepAt row count (whole core (now (regs .entry)) (now (ram .entry))) .after ⌝ }
+    ensures { λ _. ⌜ now (out .exit) ≡ words (stepAt row count (whole core (now (regs .entry)) (now (ram .entry))) .shown) ⌝ }
+{
+    let mp = core.micro_pc.0;
+    let next = next_row(mp, count);
+    let kind = row.kind;
+    match kind {
+        VirtualKind::Alu => finish(row, core, alu_arm(row, next, regs), regs, ram, out),
+        VirtualKind::ShiftStage { stage } => {
+            finish(row, core, stage_arm(stage, row, next, regs), regs, ram, out)
+        }
+        VirtualKind::Load => finish(row, core, load_arm(row, next, regs, ram), regs, ram, out),
+        VirtualKind::Store => finish(row, core, store_arm(row, next, regs, ram), regs, ram, out),
+        VirtualKind::Branch => {
+            finish(
+                row,
+                core,
+                branch_arm(row, mp, count, next, regs),
+                regs,
+                ram,
+                out,
+            )
+        }
+        VirtualKind::Upper => finish(row, core, upper_arm(row, mp, next, regs), regs, ram, out),
+        VirtualKind::Jump => finish(row, core, jump_arm(row, mp, count, regs), regs, ram, out),
+        VirtualKind::System => finish(row, core, system_arm(row, mp, regs), regs, ram, out),
+    }
+}
+
+// One padding cycle, `frozen_record`, of the row at next_fetch. The numbers of the cursor stay.
 fn padding_cycle(
     row: RomRow,
     core: Core,
@@ -758,61 +766,22 @@ fn padding_cycle(
 {
     let at = core.next_fetch.0;
     let e = padding_arm(row, at, core.output, regs);
-    commit(row, at, e, regs, ram, out);
+    put_effect(row, at, e, regs, ram, out);
 }
 
-// Live cycles until the machine halts, n at most.
-fn run_live(
-    rows: &[u64],
-    start: Core,
-    n: usize,
-    regs: &mut [u64; 64],
-    ram: &mut [u64; 256],
-    records: &mut [u64],
-) -> Ran
-    requires { ⌜ Ready (length (now rows)) start n (length (now records)) ⌝ }
-    ensures { λ r. ⌜ r .count ≡ liveCount (now (rows .entry)) n (whole start (now (regs .entry)) (now (ram .entry))) ⌝ }
-    ensures { λ r. ⌜ whole (r .core) (now (regs .exit)) (now (ram .exit)) ≡ end (cycle (now (rows .entry))) (r .count) (whole start (now (regs .entry)) (now (ram .entry))) ⌝ }
-    ensures { λ r. ⌜ now (records .exit) ≡ flat (recorded (cycle (now (rows .entry))) (r .count) (whole start (now (regs .entry)) (now (ram .entry)))) ++ drop (17 * r .count) (now (records .entry)) ⌝ }
-    ensures { λ r. ⌜ r .core .«next_fetch» .0 < length (now (rows .entry)) ⌝ }
-{
-    let mut core = afresh(start);
-    let mut i: usize = 0;
-    while i < n && !core.halted {
-        let at = core.micro_pc.0;
-        let base = RECORD_WORDS * i;
-        let next = live_cycle(
-            rows[at],
-            rows.len(),
-            core,
-            regs,
-            ram,
-            &mut records[base..base + RECORD_WORDS],
-        );
-        core = afresh(next);
-        i += 1;
-    }
-    Ran {
-        core: core,
-        count: i,
-    }
-}
-
-// n padding cycles at row next_fetch, which is taken apart once. The numbers of the cursor stay.
+// n padding cycles of the row at next_fetch.
 fn run_padding(
-    rows: &[u64],
+    row: RomRow,
     core: Core,
     n: usize,
     regs: &mut [u64; 64],
     ram: &mut [u64; 256],
     records: &mut [u64],
 )
-    requires { ⌜ (core .«next_fetch» .0 < length (now rows)) × (17 * n ≤ length (now records)) ⌝ }
-    ensures { λ _. ⌜ whole core (now (regs .exit)) (now (ram .exit)) ≡ end (padding (now (rows .entry))) n (whole core (now (regs .entry)) (now (ram .entry))) ⌝ }
-    ensures { λ _. ⌜ now (records .exit) ≡ flat (recorded (padding (now (rows .entry))) n (whole core (now (regs .entry)) (now (ram .entry)))) ++ drop (17 * n) (now (records .entry)) ⌝ }
+    requires { ⌜ InRange row × (17 * n ≤ length (now records)) ⌝ }
+    ensures { λ _. ⌜ whole core (now (regs .exit)) (now (ram .exit)) ≡ end (frozenAt row) n (whole core (now (regs .entry)) (now (ram .entry))) ⌝ }
+    ensures { λ _. ⌜ now (records .exit) ≡ flat (recorded (frozenAt row) n (whole core (now (regs .entry)) (now (ram .entry)))) ++ drop (17 * n) (now (records .entry)) ⌝ }
 {
-    let at = core.next_fetch.0;
-    let row = expand::rom_row(rows[at]);
     let mut i: usize = 0;
     while i < n {
         let base = RECORD_WORDS * i;
@@ -825,6 +794,59 @@ fn run_padding(
         );
         i += 1;
     }
+}
+
+// Whether the next cycle is a padding cycle: always in a padding call, and in a segment call once the machine has halted.
+fn is_frozen(live: bool, halted: bool) -> bool
+    ensures { λ r. ⌜ r ≡ cond live halted true ⌝ }
+{
+    if live { halted } else { true }
+}
+
+fn fetch_row(frozen: bool, fetch: usize, pc: usize) -> usize
+    ensures { λ r. ⌜ r ≡ cond frozen fetch pc ⌝ }
+{
+    if frozen { fetch } else { pc }
+}
+
+// The n cycles of an accepted call: live ones, then padding. A row is taken apart in one place, so that the compiler can join
+// that with the match of the live cycle; once the machine is frozen its row stays, and `run_padding` does the rest.
+fn run(
+    live: bool,
+    rows: &[u64],
+    start: Core,
+    n: usize,
+    regs: &mut [u64; 64],
+    ram: &mut [u64; 256],
+    records: &mut [u64],
+) -> Core
+    requires { ⌜ Ready (length (now rows)) start live n (length (now records)) ⌝ }
+    ensures { λ r. ⌜ whole r (now (regs .exit)) (now (ram .exit)) ≡ end (stepOf live (now (rows .entry))) n (whole start (now (regs .entry)) (now (ram .entry))) ⌝ }
+    ensures { λ _. ⌜ now (records .exit) ≡ flat (recorded (stepOf live (now (rows .entry))) n (whole start (now (regs .entry)) (now (ram .entry)))) ++ drop (17 * n) (now (records .entry)) ⌝ }
+{
+    let mut core = afresh(start);
+    let mut i: usize = 0;
+    while i < n {
+        let frozen = is_frozen(live, core.halted);
+        let at = fetch_row(frozen, core.next_fetch.0, core.micro_pc.0);
+        let row = expand::rom_row(rows[at]);
+        let base = RECORD_WORDS * i;
+        if frozen {
+            run_padding(row, core, n - i, regs, ram, &mut records[base..]);
+            return core;
+        }
+        let next = live_cycle(
+            row,
+            rows.len(),
+            core,
+            regs,
+            ram,
+            &mut records[base..base + RECORD_WORDS],
+        );
+        core = afresh(next);
+        i += 1;
+    }
+    core
 }
 
 // ---- the calls
@@ -868,38 +890,16 @@ fn whole_of(k: Core, regs: [u64; 64], ram: [u64; 256]) -> Cursor
     }
 }
 
-// The cycles of an accepted segment call. The arrays are copied out of the cursor once and lent to each cycle.
-fn segment_cycles(rows: &[u64], cursor: Cursor, n: usize, records: &mut [u64]) -> Cursor
-    requires { ⌜ Ready (length (now rows)) (coreOf cursor) n (length (now records)) ⌝ }
-    ensures { λ r. ⌜ r ≡ end (cycle (now (rows .entry))) n cursor ⌝ }
-    ensures { λ _. ⌜ now (records .exit) ≡ flat (recorded (cycle (now (rows .entry))) n cursor) ++ drop (17 * n) (now (records .entry)) ⌝ }
+// The cycles of an accepted call. The arrays are copied out of the cursor once and lent to each cycle.
+fn cycles_of(live: bool, rows: &[u64], cursor: Cursor, n: usize, records: &mut [u64]) -> Cursor
+    requires { ⌜ Ready (length (now rows)) (coreOf cursor) live n (length (now records)) ⌝ }
+    ensures { λ r. ⌜ r ≡ end (stepOf live (now (rows .entry))) n cursor ⌝ }
+    ensures { λ _. ⌜ now (records .exit) ≡ flat (recorded (stepOf live (now (rows .entry))) n cursor) ++ drop (17 * n) (now (records .entry)) ⌝ }
 {
     let mut regs = cursor.regs;
     let mut ram = cursor.ram;
-    let ran = run_live(rows, core_of(cursor), n, &mut regs, &mut ram, records);
-    let core = ran.core;
-    let base = RECORD_WORDS * ran.count;
-    run_padding(
-        rows,
-        core,
-        n - ran.count,
-        &mut regs,
-        &mut ram,
-        &mut records[base..],
-    );
-    whole_of(core, regs, ram)
-}
-
-// The cycles of an accepted padding call.
-fn padding_cycles(rows: &[u64], cursor: Cursor, n: usize, records: &mut [u64]) -> Cursor
-    requires { ⌜ (cursor .«next_fetch» .0 < length (now rows)) × (17 * n ≤ length (now records)) ⌝ }
-    ensures { λ r. ⌜ r ≡ end (padding (now (rows .entry))) n cursor ⌝ }
-    ensures { λ _. ⌜ now (records .exit) ≡ flat (recorded (padding (now (rows .entry))) n cursor) ++ drop (17 * n) (now (records .entry)) ⌝ }
-{
-    let mut regs = cursor.regs;
-    let mut ram = cursor.ram;
-    let core = core_of(cursor);
-    run_padding(rows, core, n, &mut regs, &mut ram, records);
+    let start = core_of(cursor);
+    let core = run(live, rows, start, n, &mut regs, &mut ram, records);
     whole_of(core, regs, ram)
 }
 
@@ -969,7 +969,7 @@ pub fn run_segment(rows: &[u64], cursor: Cursor, n: u64, records: &mut [u64]) ->
             cursor: cursor,
         },
         Outcome::Accepted => {
-            let after = segment_cycles(rows, cursor, n as usize, records);
+            let after = cycles_of(true, rows, cursor, n as usize, records);
             Answer {
                 outcome: outcome,
                 cursor: after,
@@ -991,7 +991,7 @@ pub fn pad_records(rows: &[u64], cursor: Cursor, n: u64, records: &mut [u64]) ->
             cursor: cursor,
         },
         Outcome::Accepted => {
-            let after = padding_cycles(rows, cursor, n as usize, records);
+            let after = cycles_of(false, rows, cursor, n as usize, records);
             Answer {
                 outcome: outcome,
                 cursor: after,

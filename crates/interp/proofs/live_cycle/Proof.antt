@@ -1,32 +1,159 @@
 -- `interp::live_cycle` meets its contract. Assumes nothing.
-use mathlib.Core.Path.{_∙_}
-use native.Mathlib.Numerals.{add-one}
+use mathlib.Core.Path.{_≡_, refl, _∙_}
+use Prim.Native.Nat.{_^_, _<_}
 use denote.Ref.{now}
-use Rattle.interp.specs.Cycle.{commit, stepAt}
-use Rattle.interp.specs.Code.{InRange}
-use Rattle.interp.proofs.Laws.{row-in, arm-lawful}
+use lib.ListN.{length}
+use Rattle.interp.specs.declared.Effect.{Effect}
+use Rattle.interp.specs.Cycle.{armOf, stepAt}
+use Rattle.interp.specs.Code.{InRange, Sound}
+use Rattle.interp.proofs.Laws.{arm-lawful}
 use borrow.Author.Needs.{needs}
 use Rattle.interp.proofs.live_cycle.Statement.{statement}
 use Rattle.interp.proofs.live_cycle.Tie as tie
 
-effect-of-requires : tie.Need-effect-of-requires
-effect-of-requires c κs = let start = c .before .before .before .before in (rw (c .before .before .rom-row .ensures) (row-in (start .args .word)), (start .pre .1 .0, start .pre .1 .1 .0))
+-- the definition's effect of the row
+abbrev the-effect : tie.Start → Effect
+the-effect start = let a = start .args in armOf (a .row .kind) (a .row) (a .core .«micro_pc» .0) (a .count) (now (a .regs)) (now (a .ram))
 
-commit-requires : tie.Need-commit-requires
-commit-requires c κs = let start = c .before .before .before .before .before .before .before .before in let a = start .args in let row = c .before .before .before .before .before .before .rom-row in let in-row : InRange (row .result) = rw (row .ensures) (row-in (a .word)) in (in-row, (rw (c .before .before .before .effect-of .ensures) (arm-lawful (row .result) (a .core .«micro_pc» .0) (a .count) (now (a .regs)) (in-row .rd) (start .pre .1 .0) (row .result .kind) (now (a .ram)) .sound), start .pre .1 .1 .1))
+-- it is sound, and so the cycle may end with it
+may-finish : (start : tie.Start) (e : Effect) → e ≡ the-effect start
+    → InRange (start .args .row) × (Sound e × ((start .args .core .cycles < 2 ^ 62) × (length (now (start .args .out)) ≡ 17)))
+may-finish start e h =
+    let a = start .args in
+    let lawful = arm-lawful (a .row) (a .core .«micro_pc» .0) (a .count) (now (a .regs)) (start .pre .0 .rd) (start .pre .1 .1 .0) (a .row .kind) (now (a .ram)) in
+    (start .pre .0, (rw h (lawful .sound), (start .pre .1 .0, start .pre .1 .1 .1 .1)))
+
+-- what each arm answers is that effect
+alu-is : (c : tie.After-alu-arm) → c .alu-arm .result ≡ the-effect (c .before .before .before .before .before .before)
+unfolding armOf
+alu-is c = simp (c .before .before .enum-told .given .1, c .alu-arm .ensures, c .before .before .before .before .next-row .ensures)
+
+stage-is : (c : tie.After-stage-arm) → c .stage-arm .result ≡ the-effect (c .before .before .before .before .before .before .before)
+unfolding armOf
+stage-is c = simp (c .before .before .before .kind .given .1, c .stage-arm .ensures, c .before .before .before .before .before .next-row .ensures)
+
+load-is : (c : tie.After-load-arm) → c .load-arm .result ≡ the-effect (c .before .before .before .before .before .before .before)
+unfolding armOf
+load-is c = simp (c .before .before .before .enum-told2 .given .1, c .load-arm .ensures, c .before .before .before .before .before .next-row .ensures)
+
+store-is : (c : tie.After-store-arm) → c .store-arm .result ≡ the-effect (c .before .before .before .before .before .before .before)
+unfolding armOf
+store-is c = simp (c .before .before .before .enum-told3 .given .1, c .store-arm .ensures, c .before .before .before .before .before .next-row .ensures)
+
+branch-is : (c : tie.After-branch-arm) → c .branch-arm .result ≡ the-effect (c .before .before .before .before .before .before)
+unfolding armOf
+branch-is c = simp (c .before .before .enum-told4 .given .1, c .branch-arm .ensures, c .before .before .before .before .next-row .ensures)
+
+upper-is : (c : tie.After-upper-arm) → c .upper-arm .result ≡ the-effect (c .before .before .before .before .before .before)
+unfolding armOf
+upper-is c = simp (c .before .before .enum-told5 .given .1, c .upper-arm .ensures, c .before .before .before .before .next-row .ensures)
+
+jump-is : (c : tie.After-jump-arm) → c .jump-arm .result ≡ the-effect (c .before .before .before .before .before .before)
+unfolding armOf
+jump-is c = simp (c .before .before .enum-told6 .given .1, c .jump-arm .ensures)
+
+system-is : (c : tie.After-system-arm) → c .system-arm .result ≡ the-effect (c .before .before .before .before .before .before)
+unfolding armOf
+system-is c = simp (c .before .before .enum-told7 .given .1, c .system-arm .ensures)
+
+finish-requires : tie.Need-finish-requires
+finish-requires c κs = may-finish (c .before .before .before .before .before .before .before .before .before) _ (alu-is (c .before .before .before))
+
+finish-requires-2 : tie.Need-finish-requires-2
+finish-requires-2 c κs = may-finish (c .before .before .before .before .before .before .before .before .before .before) _ (stage-is (c .before .before .before))
+
+finish-requires-3 : tie.Need-finish-requires-3
+finish-requires-3 c κs = may-finish (c .before .before .before .before .before .before .before .before .before .before) _ (load-is (c .before .before .before))
+
+finish-requires-4 : tie.Need-finish-requires-4
+finish-requires-4 c κs = may-finish (c .before .before .before .before .before .before .before .before .before .before) _ (store-is (c .before .before .before))
+
+finish-requires-5 : tie.Need-finish-requires-5
+finish-requires-5 c κs = may-finish (c .before .before .before .before .before .before .before .before .before) _ (branch-is (c .before .before .before))
+
+finish-requires-6 : tie.Need-finish-requires-6
+finish-requires-6 c κs = may-finish (c .before .before .before .before .before .before .before .before .before) _ (upper-is (c .before .before .before))
+
+finish-requires-7 : tie.Need-finish-requires-7
+finish-requires-7 c κs = may-finish (c .before .before .before .before .before .before .before .before .before) _ (jump-is (c .before .before .before))
+
+finish-requires-8 : tie.Need-finish-requires-8
+finish-requires-8 c κs = may-finish (c .before .before .before .before .before .before .before .before .before) _ (system-is (c .before .before .before))
 
 returns : tie.Need-returns
-unfolding stepAt commit
-returns c = let done = c .before .before .before .before .commit .ensures in let row = c .before .before .before .before .before .before .before .before .before .before .before .rom-row .ensures in let e = c .before .before .before .before .before .before .before .before .effect-of .ensures in (simp (c .output-after .ensures, done .0, done .1 .0, e, row, add-one), done .1 .1 ∙ simp (e, row))
+unfolding stepAt
+returns c = let done = c .before .before .finish .ensures in let e = alu-is (c .before .before .before .before .before .before) in (done .0 ∙ rw e refl, done .1 ∙ rw e refl)
+
+returns-2 : tie.Need-returns-2
+unfolding stepAt
+returns-2 c = let done = c .before .before .finish2 .ensures in let e = stage-is (c .before .before .before .before .before .before) in (done .0 ∙ rw e refl, done .1 ∙ rw e refl)
+
+returns-3 : tie.Need-returns-3
+unfolding stepAt
+returns-3 c = let done = c .before .before .finish3 .ensures in let e = load-is (c .before .before .before .before .before .before) in (done .0 ∙ rw e refl, done .1 ∙ rw e refl)
+
+returns-4 : tie.Need-returns-4
+unfolding stepAt
+returns-4 c = let done = c .before .before .finish4 .ensures in let e = store-is (c .before .before .before .before .before .before) in (done .0 ∙ rw e refl, done .1 ∙ rw e refl)
+
+returns-5 : tie.Need-returns-5
+unfolding stepAt
+returns-5 c = let done = c .before .before .finish5 .ensures in let e = branch-is (c .before .before .before .before .before .before) in (done .0 ∙ rw e refl, done .1 ∙ rw e refl)
+
+returns-6 : tie.Need-returns-6
+unfolding stepAt
+returns-6 c = let done = c .before .before .finish6 .ensures in let e = upper-is (c .before .before .before .before .before .before) in (done .0 ∙ rw e refl, done .1 ∙ rw e refl)
+
+returns-7 : tie.Need-returns-7
+unfolding stepAt
+returns-7 c = let done = c .before .before .finish7 .ensures in let e = jump-is (c .before .before .before .before .before .before) in (done .0 ∙ rw e refl, done .1 ∙ rw e refl)
+
+returns-8 : tie.Need-returns-8
+unfolding stepAt
+returns-8 c = let done = c .before .before .finish8 .ensures in let e = system-is (c .before .before .before .before .before .before) in (done .0 ∙ rw e refl, done .1 ∙ rw e refl)
 
 pub live-cycle-spec : {M : Type 1} → statement M
 live-cycle-spec =
     tie.close
     (tie.spec
     (λ c κs. search needs)
-    effect-of-requires
-    commit-requires
     (λ c. search needs)
     (λ c κs. search needs)
+    finish-requires
     (λ c. search needs)
-    returns)
+    (λ c κs. search needs)
+    finish-requires-2
+    (λ c. search needs)
+    (λ c κs. search needs)
+    finish-requires-3
+    (λ c. search needs)
+    (λ c κs. search needs)
+    finish-requires-4
+    (λ c. search needs)
+    (λ c κs. search needs)
+    finish-requires-5
+    (λ c. search needs)
+    (λ c κs. search needs)
+    finish-requires-6
+    (λ c. search needs)
+    (λ c κs. search needs)
+    finish-requires-7
+    (λ c. search needs)
+    (λ c κs. search needs)
+    finish-requires-8
+    (λ c. search needs)
+    returns
+    (λ c. search needs)
+    returns-2
+    (λ c. search needs)
+    returns-3
+    (λ c. search needs)
+    returns-4
+    (λ c. search needs)
+    returns-5
+    (λ c. search needs)
+    returns-6
+    (λ c. search needs)
+    returns-7
+    (λ c. search needs)
+    returns-8)

@@ -9,11 +9,10 @@ use borrow.Author.Needs.{needs}
 use Rattle.interp.proofs.pad_records.Statement.{statement}
 use Rattle.interp.proofs.pad_records.Tie as tie
 
-padding-cycles-requires : tie.Need-padding-cycles-requires
-padding-cycles-requires c κs =
+cycles-of-requires : tie.Need-cycles-of-requires
+cycles-of-requires c κs =
     let a = c .before .before .before .before .before .before .args in
-    let fits = accepted (now (a .rows)) (a .cursor) false (a .n) (length (now (a .records))) (sym (c .before .before .before .judge .ensures) ∙ ap outcomeNumber (c .before .enum-told2 .given .1)) in
-    (fits .fetch, fits .room-for)
+    accepted (now (a .rows)) (a .cursor) false (a .n) (length (now (a .records))) (sym (c .before .before .before .judge .ensures) ∙ ap outcomeNumber (c .before .enum-told2 .given .1))
 
 returns : tie.Need-returns
 unfolding refusalOf isSegment amount lent
@@ -29,7 +28,7 @@ returns-2 c =
     let a = c .before .before .before .before .before .before .before .before .before .args in
     let told = c .before .before .before .before .enum-told2 .given .1 in
     let answer = accepted-answer (now (a .rows)) (a .cursor) (padded (a .n) (now (a .records))) (ap outcomeNumber (sym told) ∙ c .before .before .before .before .before .before .judge .ensures) in
-    let done = c .before .before .padding-cycles .ensures in
+    let done = c .before .before .cycles-of .ensures in
     (rw (told, answer) refl, (rw answer (done .0), rw answer (done .1)))
 
 pub pad-records-spec : {M : Type 1} → statement M
@@ -39,7 +38,7 @@ pad-records-spec =
     (λ c κs. search needs)
     (λ c. search needs)
     (λ c. search needs)
-    padding-cycles-requires
+    cycles-of-requires
     returns
     (λ c. search needs)
     returns-2)

@@ -1,7 +1,6 @@
 -- `interp::run_segment` meets its contract. Assumes nothing.
 use mathlib.Core.Path.{refl, ap, sym, _∙_}
 use mathlib.Core.Bool.{true}
-use borrow.Author.Tests.{ltb-false}
 use denote.Ref.{now}
 use lib.ListN.{length}
 use Rattle.interp.specs.Calls.{segment, amount, lent, turn, isSegment, refusalOf, outcomeNumber}
@@ -10,11 +9,10 @@ use borrow.Author.Needs.{needs}
 use Rattle.interp.proofs.run_segment.Statement.{statement}
 use Rattle.interp.proofs.run_segment.Tie as tie
 
-segment-cycles-requires : tie.Need-segment-cycles-requires
-segment-cycles-requires c κs =
+cycles-of-requires : tie.Need-cycles-of-requires
+cycles-of-requires c κs =
     let a = c .before .before .before .before .before .before .args in
-    let fits = accepted (now (a .rows)) (a .cursor) true (a .n) (length (now (a .records))) (sym (c .before .before .before .judge .ensures) ∙ ap outcomeNumber (c .before .enum-told2 .given .1)) in
-    record { pc = fits .pc; fetch = fits .fetch; few-rows = fits .few-rows; few-cycles = ltb-false _ _ (fits .few-cycles); fits = fits .room-for }
+    accepted (now (a .rows)) (a .cursor) true (a .n) (length (now (a .records))) (sym (c .before .before .before .judge .ensures) ∙ ap outcomeNumber (c .before .enum-told2 .given .1))
 
 returns : tie.Need-returns
 unfolding refusalOf isSegment amount lent
@@ -30,7 +28,7 @@ returns-2 c =
     let a = c .before .before .before .before .before .before .before .before .before .args in
     let told = c .before .before .before .before .enum-told2 .given .1 in
     let answer = accepted-answer (now (a .rows)) (a .cursor) (segment (a .n) (now (a .records))) (ap outcomeNumber (sym told) ∙ c .before .before .before .before .before .before .judge .ensures) in
-    let done = c .before .before .segment-cycles .ensures in
+    let done = c .before .before .cycles-of .ensures in
     (rw (told, answer) refl, (rw answer (done .0), rw answer (done .1)))
 
 pub run-segment-spec : {M : Type 1} → statement M
@@ -40,7 +38,7 @@ run-segment-spec =
     (λ c κs. search needs)
     (λ c. search needs)
     (λ c. search needs)
-    segment-cycles-requires
+    cycles-of-requires
     returns
     (λ c. search needs)
     returns-2)

@@ -1,10 +1,10 @@
--- `interp::commit` meets its contract. Assumes nothing.
+-- `interp::put_effect` meets its contract. Assumes nothing.
 use mathlib.Core.Path.{ap, _∙_}
 use Rattle.interp.specs.Machine.{words}
 use Rattle.interp.specs.Cycle.{recordOf, regsAfter}
 use borrow.Author.Needs.{needs}
-use Rattle.interp.proofs.commit.Statement.{statement}
-use Rattle.interp.proofs.commit.Tie as tie
+use Rattle.interp.proofs.put_effect.Statement.{statement}
+use Rattle.interp.proofs.put_effect.Tie as tie
 
 put-requires : tie.Need-put-requires
 unfolding recordOf
@@ -14,8 +14,8 @@ returns : tie.Need-returns
 unfolding regsAfter
 returns c = (simp (c .before .before .before .before .before .before .hold .ensures), (c .before .before .before .before .store .ensures, c .before .before .put .ensures ∙ ap words (c .before .before .before .before .before .before .before .before .record-of .ensures)))
 
-pub commit-spec : {M : Type 1} → statement M
-commit-spec =
+pub put-effect-spec : {M : Type 1} → statement M
+put-effect-spec =
     tie.close
     (tie.spec
     (λ c κs. search needs)
