@@ -1,5 +1,5 @@
 // The interpreter, a port of magnetar-cpu's interp.rs: it runs the rows of an expanded program and writes one record of 17
-// words for each cycle into a lent buffer. A cycle is an arm, which says what its row does, and then `commit`.
+// words for each cycle into a lent buffer. A cycle is an arm, which says what its row does, and then `commit`, which does it.
 ghost use mathlib.Core.Path.{_≡_};
 ghost use Prim.Native.Nat.{suc, _+_, _*_, _%_, _^_, _≤_, _<_};
 ghost use mathlib.Core.Bool.{true, not, cond, _&&_};
@@ -689,8 +689,8 @@ fn output_after(halts: bool, shown: u64, output: u64) -> u64
     if halts { shown } else { output }
 }
 
-// Ends a live cycle: does what its effect says, and gives the numbers after it.
-fn finish(
+// `commit`: does what the effect of a live cycle says, and gives the numbers after it.
+fn commit(
     row: RomRow,
     core: Core,
     e: Effect,
@@ -730,14 +730,14 @@ fn live_cycle(
     let next = next_row(mp, count);
     let kind = row.kind;
     match kind {
-        VirtualKind::Alu => finish(row, core, alu_arm(row, next, regs), regs, ram, out),
+        VirtualKind::Alu => commit(row, core, alu_arm(row, next, regs), regs, ram, out),
         VirtualKind::ShiftStage { stage } => {
-            finish(row, core, stage_arm(stage, row, next, regs), regs, ram, out)
+            commit(row, core, stage_arm(stage, row, next, regs), regs, ram, out)
         }
-        VirtualKind::Load => finish(row, core, load_arm(row, next, regs, ram), regs, ram, out),
-        VirtualKind::Store => finish(row, core, store_arm(row, next, regs, ram), regs, ram, out),
+        VirtualKind::Load => commit(row, core, load_arm(row, next, regs, ram), regs, ram, out),
+        VirtualKind::Store => commit(row, core, store_arm(row, next, regs, ram), regs, ram, out),
         VirtualKind::Branch => {
-            finish(
+            commit(
                 row,
                 core,
                 branch_arm(row, mp, count, next, regs),
@@ -746,9 +746,9 @@ fn live_cycle(
                 out,
             )
         }
-        VirtualKind::Upper => finish(row, core, upper_arm(row, mp, next, regs), regs, ram, out),
-        VirtualKind::Jump => finish(row, core, jump_arm(row, mp, count, regs), regs, ram, out),
-        VirtualKind::System => finish(row, core, system_arm(row, mp, regs), regs, ram, out),
+        VirtualKind::Upper => commit(row, core, upper_arm(row, mp, next, regs), regs, ram, out),
+        VirtualKind::Jump => commit(row, core, jump_arm(row, mp, count, regs), regs, ram, out),
+        VirtualKind::System => commit(row, core, system_arm(row, mp, regs), regs, ram, out),
     }
 }
 

@@ -1,7 +1,9 @@
 //! Times the static library beside the unchanged Rust, in one run.
 
+mod machine;
 mod mix;
 
+use machine::{Machine, LOOPS};
 use magnetar_native::testing::{ordinary_word, program, register_shift, Rng};
 use magnetar_native::MAX_WORDS;
 use mix::Mix;
@@ -13,6 +15,8 @@ usage: bench [--require] [ROUNDS]    --require: exit 1 also if the test's target
 ";
 const ROUNDS: usize = 20;
 const SEED: u64 = 0x4245_4e43;
+/// The lengths of the segments that are timed.
+const SEGMENTS: [usize; 2] = [4096, 65_536];
 
 /// The least that is wanted. A ratio holds on any machine; a speed does not.
 struct Target {
@@ -29,6 +33,17 @@ const RATIO: Target = Target {
 const ROWS: Target = Target {
     least: 1.0,
     is_ratio: false,
+};
+
+/// The library's speed over that of the Rust, for every loop.
+const RUN: Target = Target {
+    least: 1.0,
+    is_ratio: true,
+};
+/// The same, where the Rust's records are packed into words too.
+const PACKED: Target = Target {
+    least: 2.0,
+    is_ratio: true,
 };
 
 type Word = fn(&mut Rng) -> u32;
@@ -99,12 +114,23 @@ fn run(rounds: usize) -> Result<Vec<Missed>, String> {
     for _ in 0..rounds {
         mixes.iter_mut().for_each(Mix::round);
     }
+    let mut machines = machines()?;
+    for _ in 0..rounds {
+        machines.iter_mut().for_each(Machine::round);
+    }
     println!("Programs of {MAX_WORDS} words, release build.");
     println!("Rust and library in turn, best of {rounds} rounds.");
     let mut missed = Vec::new();
     print_expansion(&mixes, &mut missed);
     print_test(&mixes, &mut missed);
+    print_machines(&machines, &mut missed);
     Ok(missed)
+}
+
+/// Every loop with segments of each length.
+fn machines() -> Result<Vec<Machine>, String> {
+    let of_length = |cycles| LOOPS.iter().map(move |of| Machine::new(of, cycles));
+    SEGMENTS.into_iter().flat_map(of_length).collect()
 }
 
 fn print_expansion(mixes: &[Mix], missed: &mut Vec<Missed>) {
@@ -138,6 +164,32 @@ fn print_test(mixes: &[Mix], missed: &mut Vec<Missed>) {
             _ => "no target",
         };
         println!("{name:<22}{rows:>8}{first:>12.2}{later:>10.2}  {state}");
+    }
+}
+
+fn print_machines(machines: &[Machine], missed: &mut Vec<Missed>) {
+    println!("\nLoops and halted machines in segments, million records/s; targets:");
+    println!("ratio to the Rust's run_segment at least {},", RUN.least);
+    println!(
+        "to the same with its records packed into words at least {}",
+        PACKED.least
+    );
+    println!("(Rust with what it allocates; packed records and library into lent buffers)");
+    println!("                        cycles    Rust  packed  library  ratio   to packed");
+    for machine in machines {
+        let (name, cycles) = (machine.name, machine.cycles);
+        let [source, packed, library] = machine.records_per_microsecond();
+        let [to_source, to_packed] = [library / source, library / packed];
+        let name_of = |what: &str| format!("{name}, {cycles} cycles{what}");
+        let states = [
+            state(&name_of(""), to_source, &RUN, missed),
+            state(&name_of(", packed"), to_packed, &PACKED, missed),
+        ];
+        println!(
+            "{name:<22}{cycles:>8}{source:>8.1}{packed:>8.1}{library:>9.1}\
+             {to_source:>7.2} {:<6}{to_packed:>5.2} {}",
+            states[0], states[1]
+        );
     }
 }
 

@@ -80,7 +80,7 @@ impl Mix {
 }
 
 /// The time of some work, with its result, which the caller drops untimed.
-fn timed<T>(work: impl FnOnce() -> T) -> (Duration, T) {
+pub fn timed<T>(work: impl FnOnce() -> T) -> (Duration, T) {
     let start = Instant::now();
     let result = black_box(work());
     (start.elapsed(), result)

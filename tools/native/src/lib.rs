@@ -1,15 +1,22 @@
 //! The static library of the port, called from Rust.
 //!
-//! All `unsafe` code is here: what is lent to the library are slices, so its
-//! pointers are never null and always aligned, also where a length is 0.
+//! All `unsafe` code is here: what is lent to the library are slices and arrays,
+//! so its pointers are never null and always aligned, also where a length is 0.
 
+mod cursor;
 pub mod testing;
 
+pub use cursor::{Cursor, Image};
 use std::error::Error;
 use std::fmt;
 
 /// The longest program that is accepted.
 pub const MAX_WORDS: usize = 1 << 20;
+/// The most rows that are accepted: those of the longest program, all register
+/// shifts.
+pub const MAX_ROWS: usize = 6 * MAX_WORDS;
+/// The words of a record.
+pub const RECORD_WORDS: usize = 17;
 
 extern "C" {
     fn magnetar_expand(
@@ -22,6 +29,23 @@ extern "C" {
         count: *mut u64,
     ) -> u64;
     fn magnetar_is_expansion(rows: *const u64, rows_len: usize) -> u64;
+    fn magnetar_start(input: *const u64, input_len: usize, cursor: *mut u64);
+    fn magnetar_segment(
+        rows: *const u64,
+        rows_len: usize,
+        cursor: *mut u64,
+        length: u64,
+        records: *mut u64,
+        records_len: usize,
+    ) -> u64;
+    fn magnetar_padding(
+        rows: *const u64,
+        rows_len: usize,
+        cursor: *mut u64,
+        length: u64,
+        records: *mut u64,
+        records_len: usize,
+    ) -> u64;
 }
 
 /// Why a call was refused. The numbers are the answers of the library.
@@ -29,24 +53,57 @@ extern "C" {
 pub enum Refusal {
     NoWords = 1,
     TooManyWords = 2,
+    NoExpansion = 3,
+    OutsideRows = 4,
+    TooManyCycles = 5,
     ShortBuffer = 6,
+}
+
+impl Refusal {
+    const EXPAND: [Self; 3] = [Self::NoWords, Self::TooManyWords, Self::ShortBuffer];
+    const PADDING: [Self; 5] = [
+        Self::NoWords,
+        Self::TooManyWords,
+        Self::NoExpansion,
+        Self::OutsideRows,
+        Self::ShortBuffer,
+    ];
+    const SEGMENT: [Self; 6] = [
+        Self::NoWords,
+        Self::TooManyWords,
+        Self::NoExpansion,
+        Self::OutsideRows,
+        Self::TooManyCycles,
+        Self::ShortBuffer,
+    ];
 }
 
 impl fmt::Display for Refusal {
     fn fmt(&self, f: &mut fmt::Formatter) -> fmt::Result {
         match self {
-            Refusal::NoWords => write!(f, "the program has no words"),
-            Refusal::TooManyWords => write!(f, "the program has over {MAX_WORDS} words"),
-            Refusal::ShortBuffer => write!(
+            Refusal::NoWords => write!(f, "there are no program words, or no rows"),
+            Refusal::TooManyWords => write!(
                 f,
-                "the row buffer is shorter than the expansion, \
-                 or the start buffer shorter than the program"
+                "there are over {MAX_WORDS} program words, or over {MAX_ROWS} rows"
             ),
+            Refusal::NoExpansion => write!(f, "the rows are not the expansion of a program"),
+            Refusal::OutsideRows => write!(f, "micro_pc or next_fetch is not below the row count"),
+            Refusal::TooManyCycles => write!(f, "the cycles would become more than 2^62"),
+            Refusal::ShortBuffer => write!(f, "a buffer is too short for what goes into it"),
         }
     }
 }
 
 impl Error for Refusal {}
+
+/// An answer as a result. It must be 0 or the number of one of the refusals.
+fn result(call: &str, answer: u64, refusals: &[Refusal]) -> Result<(), Refusal> {
+    if answer == 0 {
+        return Ok(());
+    }
+    let refusal = refusals.iter().find(|&&refusal| refusal as u64 == answer);
+    Err(*refusal.unwrap_or_else(|| panic!("{call} answered {answer}")))
+}
 
 /// Expands `program` into row words, raw + 2^32 × stage, and gives their count.
 ///
@@ -62,13 +119,9 @@ impl Error for Refusal {}
 /// If the library's answer is none of its numbers.
 pub fn expand(program: &[u32], rows: &mut [u64], starts: &mut [u64]) -> Result<usize, Refusal> {
     let mut count = 0;
-    match expand_counting(program, rows, starts, &mut count) {
-        0 => Ok(usize::try_from(count).expect("a count of rows in memory")),
-        1 => Err(Refusal::NoWords),
-        2 => Err(Refusal::TooManyWords),
-        6 => Err(Refusal::ShortBuffer),
-        answer => panic!("magnetar_expand answered {answer}"),
-    }
+    let answer = expand_counting(program, rows, starts, &mut count);
+    result("magnetar_expand", answer, &Refusal::EXPAND)?;
+    Ok(usize::try_from(count).expect("a count of rows in memory"))
 }
 
 /// `expand` in the library's own form: the answer is 0, with the count of rows
@@ -106,5 +159,111 @@ pub fn is_expansion(rows: &[u64]) -> bool {
         0 => false,
         1 => true,
         answer => panic!("magnetar_is_expansion answered {answer}"),
+    }
+}
+
+/// A fresh cursor: all zero, with the input in RAM from its first word on. What
+/// goes past the end of RAM is ignored.
+pub fn start(input: &[u64]) -> Cursor {
+    let mut image = [0; Cursor::WORDS];
+    start_image(input, &mut image);
+    Cursor::new(image)
+}
+
+/// `start` in the library's own form, which writes every word of the image.
+pub fn start_image(input: &[u64], image: &mut Image) {
+    // SAFETY: pointer and length are those of a slice, and the image has the
+    // words of a cursor; both are borrowed until the call returns.
+    unsafe { magnetar_start(input.as_ptr(), input.len(), image.as_mut_ptr()) }
+}
+
+/// Runs `length` cycles, live ones until the machine halts and padding cycles
+/// after that, and moves the cursor on.
+///
+/// The records go to the first places of `records`; the places after them are
+/// left alone. Refused, lowest number first: no rows (1), over `MAX_ROWS` (2),
+/// rows that are not an expansion (3), a micro_pc or next_fetch outside the
+/// rows (4), a sum of cycles and length over 2^62 (5), and fewer than
+/// `RECORD_WORDS` words a record (6). A refused call leaves everything as it
+/// was.
+///
+/// # Panics
+///
+/// If the library's answer is none of its numbers.
+pub fn segment(
+    rows: &[u64],
+    cursor: &mut Cursor,
+    length: u64,
+    records: &mut [u64],
+) -> Result<(), Refusal> {
+    let answer = segment_image(rows, cursor.image_mut(), length, records);
+    result("magnetar_segment", answer, &Refusal::SEGMENT)
+}
+
+/// Runs `length` padding cycles, also on a machine that is still live. The rest
+/// is as for `segment`, but that no sum of cycles is refused.
+///
+/// # Panics
+///
+/// If the library's answer is none of its numbers.
+pub fn padding(
+    rows: &[u64],
+    cursor: &mut Cursor,
+    length: u64,
+    records: &mut [u64],
+) -> Result<(), Refusal> {
+    let answer = padding_image(rows, cursor.image_mut(), length, records);
+    result("magnetar_padding", answer, &Refusal::PADDING)
+}
+
+/// `segment` in the library's own form: the answer is 0 or the number of the
+/// refusal.
+pub fn segment_image(rows: &[u64], image: &mut Image, length: u64, records: &mut [u64]) -> u64 {
+    // SAFETY: pointers and lengths are those of slices and of an image, all
+    // borrowed until the call returns, and those written to by nothing else.
+    unsafe {
+        magnetar_segment(
+            rows.as_ptr(),
+            rows.len(),
+            image.as_mut_ptr(),
+            length,
+            records.as_mut_ptr(),
+            records.len(),
+        )
+    }
+}
+
+/// `padding` in the library's own form.
+pub fn padding_image(rows: &[u64], image: &mut Image, length: u64, records: &mut [u64]) -> u64 {
+    // SAFETY: as for `segment_image`.
+    unsafe {
+        magnetar_padding(
+            rows.as_ptr(),
+            rows.len(),
+            image.as_mut_ptr(),
+            length,
+            records.as_mut_ptr(),
+            records.len(),
+        )
+    }
+}
+
+#[cfg(test)]
+mod tests {
+    use super::*;
+
+    #[test]
+    fn answers_as_results() {
+        assert_eq!(result("a", 0, &Refusal::PADDING), Ok(()));
+        for refusal in Refusal::SEGMENT {
+            let answer = refusal as u64;
+            assert_eq!(result("a", answer, &Refusal::SEGMENT), Err(refusal));
+        }
+    }
+
+    #[test]
+    #[should_panic(expected = "a answered 5")]
+    fn an_answer_that_is_none_of_its_numbers() {
+        let _ = result("a", 5, &Refusal::PADDING);
     }
 }

@@ -1,6 +1,9 @@
-//! What the tests and the benchmark share: programs, and the expansion by the
-//! unchanged Rust that the library is compared with.
+//! What the tests and the benchmark share: programs, and what the unchanged Rust
+//! makes of them, with which the library is compared.
 
+mod machine;
+
+pub use machine::{cursor_of, image_of, model, pack, refusal, run_source, Call, Rom};
 use magnetar_source::decode::{decode, Opcode};
 use magnetar_source::expand::{expand_program, VirtualInst, VirtualKind, SHIFT_STAGES};
 pub use rng::Rng;
@@ -15,6 +18,10 @@ static OPCODES: LazyLock<Vec<u32>> = LazyLock::new(|| {
 const REGISTER: u32 = 0x33;
 const FUNCT3_AT: u32 = 12;
 const FUNCT3_BITS: u32 = 7 << FUNCT3_AT;
+
+/// The opcodes of branches and of JAL, and the bits that the immediate has in
+/// common with its sign if it is from -64 to 62.
+const NEAR: [(u32, u32); 2] = [(0x63, 0xfc00_0080), (0x6f, 0xfc1f_f000)];
 
 /// A word of one row, and one of six.
 pub const ADDI: u32 = 0x0050_0513;
@@ -33,15 +40,18 @@ impl Expansion {
     pub fn of(program: &[u32]) -> Self {
         let expanded = expand_program(program);
         assert_eq!(expanded.len, expanded.rows.len());
-        let word = |inst: &VirtualInst| match inst.row.kind {
-            VirtualKind::ShiftStage { stage } => stage_word(inst.row.raw, stage),
-            _ => u64::from(inst.row.raw),
-        };
         let starts = expanded.inst_to_micro.iter();
         Expansion {
-            rows: expanded.rows.iter().map(word).collect(),
+            rows: expanded.rows.iter().map(row_word).collect(),
             starts: starts.map(|&start| start as u64).collect(),
         }
+    }
+}
+
+fn row_word(inst: &VirtualInst) -> u64 {
+    match inst.row.kind {
+        VirtualKind::ShiftStage { stage } => stage_word(inst.row.raw, stage),
+        _ => u64::from(inst.row.raw),
     }
 }
 
@@ -78,6 +88,30 @@ pub fn near_shift(rng: &mut Rng) -> u32 {
     register_shift(rng) ^ 1 << rng.below(15)
 }
 
+/// A branch or JAL to one of the nearest rows.
+pub fn near_target(rng: &mut Rng) -> u32 {
+    let (opcode, sign) = NEAR[rng.below(NEAR.len())];
+    let word = rng.word() & !OPCODE_BITS | opcode;
+    match rng.below(2) {
+        0 => word & !sign,
+        _ => word | sign,
+    }
+}
+
+/// A word that does not halt, every other time a near target or register shift.
+pub fn live_word(rng: &mut Rng) -> u32 {
+    match rng.below(4) {
+        0 => near_target(rng),
+        1 => register_shift(rng),
+        _ => loop {
+            let word = ordinary_word(rng);
+            if expand_program(&[word]).rows[0].row.kind != VirtualKind::System {
+                return word;
+            }
+        },
+    }
+}
+
 /// `length` words, each drawn by `word`.
 pub fn program(length: usize, rng: &mut Rng, word: impl Fn(&mut Rng) -> u32) -> Vec<u32> {
     (0..length).map(|_| word(rng)).collect()
@@ -97,9 +131,26 @@ mod tests {
     fn words_become_as_many_rows_as_their_names_say() {
         assert_eq!(rows_of(register_shift), 1000 * STAGES);
         assert_eq!(rows_of(ordinary_word), 1000);
-        for both in [known_word, near_shift] {
+        assert_eq!(rows_of(near_target), 1000);
+        for both in [known_word, near_shift, live_word] {
             assert!((1001..1000 * STAGES).contains(&rows_of(both)));
         }
+    }
+
+    #[test]
+    fn near_targets_are_near() {
+        let words = program(1000, &mut Rng::new(1), near_target);
+        let mut immediates: Vec<i64> = words.iter().map(|&word| decode(word).imm).collect();
+        immediates.sort();
+        immediates.dedup();
+        assert!(immediates.into_iter().eq((-64..64).step_by(2)));
+    }
+
+    #[test]
+    fn live_words_do_not_halt() {
+        let expanded = expand_program(&program(1000, &mut Rng::new(1), live_word));
+        let halts = |inst: &VirtualInst| inst.row.kind == VirtualKind::System;
+        assert!(!expanded.rows.iter().any(halts));
     }
 
     #[test]

@@ -1,29 +1,45 @@
 //! Reads a stored list.
 
-use crate::listing::{holds, STRIDE, WIDTH};
+use crate::listing::{holds, STRIDE, UNCOMPARED, WIDTH};
 use std::fs;
 use std::ops::Range;
 use std::path::Path;
 
 /// A kind of list. Its parts are the lines that are right or wrong together:
-/// each line of a list of words, all lines of a program in a list of programs.
+/// each line of a list of words, all lines of a program in a list of programs,
+/// all lines of a list of calls.
 pub struct ListKind {
+    /// The characters of a line, where all lines have the same number.
+    pub width: Option<usize>,
     /// Whether a part begins with this line.
     pub begins: fn(&[u8]) -> bool,
     /// The first line of a part that is not what the unchanged Rust answers,
     /// counted from zero.
     pub first_wrong: fn(&[u8]) -> Option<usize>,
+    /// Whether it is tried to make the character in this column of a line,
+    /// counted from zero, this other one.
+    pub tries: fn(&[u8], usize, u8) -> bool,
+    /// Of so many drawn changes of such a line one is tried: more where there
+    /// are very many such lines.
+    pub rarity: fn(&[u8]) -> usize,
 }
 
 /// The lists of decoded words.
 pub const WORDS: ListKind = ListKind {
+    width: Some(WIDTH),
     begins: |_| true,
-    first_wrong: |line| (!holds(&line[..WIDTH])).then_some(0),
+    first_wrong: |line| (!line.strip_suffix(b"\n").is_some_and(holds)).then_some(0),
+    tries: is_compared,
+    rarity: |_| 1,
 };
+
+/// A character that is compared, and stays so.
+pub fn is_compared(line: &[u8], column: usize, to: u8) -> bool {
+    line[column] != UNCOMPARED && to != UNCOMPARED
+}
 
 impl ListKind {
     /// The bytes of a good list: whole lines, all right by the unchanged Rust.
-    /// So byte `n` lies in line `n / STRIDE`, counted from zero.
     pub fn read(&self, path: &Path) -> Result<Vec<u8>, String> {
         let bytes = fs::read(path).map_err(|error| format!("{}: {error}", path.display()))?;
         self.check(&bytes)
@@ -35,37 +51,42 @@ impl ListKind {
     /// beginning are a part, too, which is a wrong one.
     pub fn parts(&self, list: &[u8]) -> Vec<Range<usize>> {
         let mut parts: Vec<Range<usize>> = Vec::new();
-        for (start, line) in (0..).step_by(STRIDE).zip(lines(list)) {
+        let mut start = 0;
+        for line in fed_lines(list) {
+            let end = start + line.len();
             match parts.last_mut() {
-                Some(part) if !(self.begins)(line) => part.end += STRIDE,
-                _ => parts.push(start..start + STRIDE),
+                Some(part) if !(self.begins)(line) => part.end = end,
+                _ => parts.push(start..end),
             }
+            start = end;
         }
         parts
     }
 
     /// The first wrong line of each wrong part, counted from one.
     pub fn wrong_lines(&self, list: &[u8]) -> Vec<usize> {
-        let wrong_line = |part: Range<usize>| {
-            let before = part.start / STRIDE;
-            Some(before + (self.first_wrong)(&list[part])? + 1)
-        };
-        self.parts(list)
-            .into_iter()
-            .filter_map(wrong_line)
-            .collect()
+        let mut found = Vec::new();
+        let mut first = 1;
+        for part in self.parts(list) {
+            let part = &list[part];
+            found.extend((self.first_wrong)(part).map(|line| first + line));
+            first += fed_lines(part).count();
+        }
+        found
     }
 
     fn check(&self, bytes: &[u8]) -> Result<(), String> {
         if bytes.is_empty() {
             return Err("the list is empty".to_string());
         }
-        let whole = |line: &[u8]| line.iter().position(|&byte| byte == b'\n') == Some(WIDTH);
-        if let Some(index) = bytes.chunks(STRIDE).position(|line| !whole(line)) {
-            return Err(format!(
-                "line {} is not {WIDTH} characters and a line feed",
-                index + 1
-            ));
+        if let Some(width) = self.width {
+            let whole = |line: &[u8]| line.len() == width + 1 && line.ends_with(b"\n");
+            if let Some(index) = fed_lines(bytes).position(|line| !whole(line)) {
+                return Err(format!(
+                    "line {} is not {width} characters and a line feed",
+                    index + 1
+                ));
+            }
         }
         match self.wrong_lines(bytes).first() {
             None => Ok(()),
@@ -76,7 +97,17 @@ impl ListKind {
     }
 }
 
-/// The lines of a list, each without its line feed.
+/// The lines of any list, each with its line feed. The last may lack it.
+pub fn fed_lines(list: &[u8]) -> impl Iterator<Item = &[u8]> {
+    list.split_inclusive(|&byte| byte == b'\n')
+}
+
+/// How many lines end before this byte.
+pub fn lines_before(list: &[u8], offset: usize) -> usize {
+    list[..offset].iter().filter(|&&byte| byte == b'\n').count()
+}
+
+/// The lines of a list of fixed width, each without its line feed.
 pub fn lines(list: &[u8]) -> impl Iterator<Item = &[u8]> {
     list.chunks_exact(STRIDE).map(|line| &line[..WIDTH])
 }
@@ -108,6 +139,15 @@ mod tests {
     fn parts_follow_one_another() {
         assert_eq!(WORDS.parts(good().as_bytes()), [0..STRIDE, STRIDE..96]);
         assert_eq!(PROGRAMS.parts(good_programs().as_bytes()), [0..96, 96..240]);
+    }
+
+    #[test]
+    fn lines_may_have_any_length() {
+        let list = b"a\n\nbc\nd";
+        let found: Vec<&[u8]> = fed_lines(list).collect();
+        assert_eq!(found, [&b"a\n"[..], b"\n", b"bc\n", b"d"]);
+        let before: Vec<usize> = (0..=7).map(|offset| lines_before(list, offset)).collect();
+        assert_eq!(before, [0, 0, 1, 2, 2, 2, 3, 3]);
     }
 
     #[test]

@@ -1,16 +1,22 @@
-//! Makes and tests the lists of decoded words and of expanded programs that the
-//! port is compared with.
+//! Makes and tests the lists of decoded words, of expanded programs and of
+//! segment and padding calls that the port is compared with.
 
+mod asm;
+mod calldamage;
+mod callline;
+mod calllist;
 mod damage;
 mod encode;
 mod forms;
 mod formwords;
 mod immediate;
+mod interp;
 mod list;
 mod listing;
 mod mutate;
 mod objdump;
 mod operands;
+mod plan;
 mod programs;
 mod rowdamage;
 mod rowline;
@@ -18,6 +24,7 @@ mod tempfile;
 mod words;
 mod wordset;
 
+use callline::CALLS;
 use list::{ListKind, WORDS};
 use rowline::PROGRAMS;
 use std::env;
@@ -34,8 +41,11 @@ usage: vectors decode                            list the unchanged Rust's answe
        vectors expand                            list the unchanged Rust's expansions
        vectors damage-rows FILE                  as damage, for a list of expansions
        vectors mutate-rows PROGRAM FILE COUNT    as mutate, for a list of expansions
+       vectors interp                            list the unchanged Rust's records and cursors
+       vectors damage-calls FILE                 as damage, for lists of calls
+       vectors mutate-calls PROGRAM FILE COUNT   as mutate, for lists of calls
 ";
-const COMMANDS: [&str; 7] = [
+const COMMANDS: [&str; 10] = [
     "decode",
     "objdump",
     "damage",
@@ -43,6 +53,9 @@ const COMMANDS: [&str; 7] = [
     "expand",
     "damage-rows",
     "mutate-rows",
+    "interp",
+    "damage-calls",
+    "mutate-calls",
 ];
 
 /// Why a run did not succeed.
@@ -88,6 +101,11 @@ fn run(arguments: &[OsString]) -> Result<ExitCode, Failure> {
             print(&rowdamage::listing(&PROGRAMS.read(Path::new(file))?)?)
         }
         (Some("mutate-rows"), [program, file, count]) => mutations(&PROGRAMS, program, file, count),
+        (Some("interp"), []) => print(interp::listing().as_bytes()),
+        (Some("damage-calls"), [file]) => {
+            print(&calldamage::listing(&CALLS.read(Path::new(file))?)?)
+        }
+        (Some("mutate-calls"), [program, file, count]) => mutations(&CALLS, program, file, count),
         (Some(known), _) if COMMANDS.contains(&known) => Err(Failure::Call(format!(
             "wrong number of arguments for {known}"
         ))),
@@ -167,9 +185,16 @@ mod tests {
     fn lists_are_read_by_their_kind() {
         let words = TempFile::new(words::listing().as_bytes()).unwrap();
         let programs = TempFile::new(programs::listing().as_bytes()).unwrap();
-        for (command, file) in [("damage", &programs), ("damage-rows", &words)] {
+        let calls = TempFile::new(interp::listing().as_bytes()).unwrap();
+        let wrong = [
+            ("damage", &programs),
+            ("damage-rows", &words),
+            ("damage-calls", &words),
+            ("damage-rows", &calls),
+        ];
+        for (command, file) in wrong {
             let text = failure(&[command, file.path().to_str().unwrap()]);
-            assert!(text.contains("is not what the unchanged Rust"), "{text}");
+            assert!(text.contains(" is not "), "{text}");
         }
     }
 

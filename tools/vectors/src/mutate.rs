@@ -1,7 +1,6 @@
 //! Tests that a replay program notices a change of any one character of a list.
 
-use crate::list::ListKind;
-use crate::listing::{STRIDE, UNCOMPARED};
+use crate::list::{lines_before, ListKind};
 use crate::tempfile::TempFile;
 use rng::Rng;
 use std::ffi::OsStr;
@@ -18,23 +17,17 @@ pub struct Mutation {
     offset: usize,
     from: u8,
     to: u8,
-    /// The bytes of the part of the list that it makes wrong.
+    /// The changed line and column, counted from one.
+    line: usize,
+    column: usize,
+    /// The lines of the part that it makes wrong, counted from one.
     part: Range<usize>,
 }
 
 impl Mutation {
-    /// The number of the changed line, counted from one.
-    fn line(&self) -> usize {
-        self.offset / STRIDE + 1
-    }
-
-    fn column(&self) -> usize {
-        self.offset % STRIDE + 1
-    }
-
     /// Whether the output names a line of the part that became wrong.
     fn is_named(&self, output: &str) -> bool {
-        let mut lines = self.part.start / STRIDE + 1..=self.part.end / STRIDE;
+        let mut lines = self.part.clone();
         lines.any(|line| output.contains(&format!(" line {line}:")))
     }
 }
@@ -80,7 +73,7 @@ pub fn report(count: usize, unnoticed: &[Mutation]) -> String {
     let mut text: String = unnoticed
         .iter()
         .map(|mutation| {
-            let (line, column) = (mutation.line(), mutation.column());
+            let (line, column) = (mutation.line, mutation.column);
             let (from, to) = (char::from(mutation.from), char::from(mutation.to));
             format!("unnoticed: line {line} column {column}: '{from}' became '{to}'\n")
         })
@@ -114,7 +107,14 @@ fn draw(kind: &ListKind, list: &[u8], parts: &[Range<usize>], rng: &mut Rng) -> 
     loop {
         let offset = rng.below(list.len());
         let (from, to) = (list[offset], replacement(rng));
-        if from == b'\n' || from == UNCOMPARED || to == UNCOMPARED || to == from {
+        let line = line_around(list, offset);
+        let column = offset - line.start;
+        let line = &list[line];
+        if from == b'\n' || to == from || !(kind.tries)(line, column, to) {
+            continue;
+        }
+        let rarity = (kind.rarity)(line);
+        if rarity > 1 && rng.below(rarity) > 0 {
             continue;
         }
         // The parts are in order, and the first begins with the list.
@@ -126,10 +126,21 @@ fn draw(kind: &ListKind, list: &[u8], parts: &[Range<usize>], rng: &mut Rng) -> 
                 offset,
                 from,
                 to,
-                part,
+                line: lines_before(list, offset) + 1,
+                column: column + 1,
+                part: lines_before(list, part.start) + 1..lines_before(list, part.end) + 1,
             };
         }
     }
+}
+
+/// The bytes of the line that this byte lies in, without its line feed.
+fn line_around(list: &[u8], offset: usize) -> Range<usize> {
+    let is_feed = |&byte: &u8| byte == b'\n';
+    let before = list[..offset].iter().rposition(is_feed);
+    let after = list[offset..].iter().position(is_feed);
+    let start = before.map_or(0, |feed| feed + 1);
+    start..after.map_or(list.len(), |length| offset + length)
 }
 
 /// A hexadecimal digit or any printable character, each half of the time:
@@ -144,14 +155,21 @@ fn replacement(rng: &mut Rng) -> u8 {
 #[cfg(test)]
 mod tests {
     use super::*;
+    use crate::callline::{answers, CALLS};
+    use crate::calllist::{segment, CallList};
+    use crate::interp;
     use crate::list::WORDS;
-    use crate::listing::WIDTH;
+    use crate::listing::{UNCOMPARED, WIDTH};
     use crate::programs;
     use crate::rowline::{expansion, PROGRAMS};
     use crate::words;
 
-    fn lists() -> [(ListKind, String); 2] {
-        [(WORDS, words::listing()), (PROGRAMS, programs::listing())]
+    fn lists() -> [(ListKind, String); 3] {
+        [
+            (WORDS, words::listing()),
+            (PROGRAMS, programs::listing()),
+            (CALLS, interp::listing()),
+        ]
     }
 
     /// A replay that compares with the unchanged Rust.
@@ -197,9 +215,37 @@ mod tests {
             let named: Vec<usize> = (0..6)
                 .filter(|line| drawn.is_named(&format!("list line {line}: differs")))
                 .collect();
-            let first = drawn.line() <= 2;
+            let first = drawn.line <= 2;
             assert_eq!(named, if first { [1, 2] } else { [3, 4] });
         }
+    }
+
+    #[test]
+    fn lines_of_any_length_are_counted() {
+        let list = |calls| {
+            let (program, input) = (vec![0x13], vec![5; 3]);
+            answers(&CallList {
+                program,
+                input,
+                calls,
+            })
+        };
+        // Lines 1 to 5 and 6 to 13.
+        let list = list(Vec::new()) + &list(vec![segment(1)]);
+        let lines: Vec<&str> = list.lines().collect();
+        let parts = CALLS.parts(list.as_bytes());
+        let mut rng = Rng::new(SEED);
+        for _ in 0..200 {
+            let drawn = draw(&CALLS, list.as_bytes(), &parts, &mut rng);
+            let line = lines[drawn.line - 1].as_bytes();
+            assert_eq!(line[drawn.column - 1], drawn.from);
+            assert!(drawn.to.is_ascii_hexdigit() && drawn.column > 2);
+            assert!(b"lsrc".contains(&line[0]));
+            assert_eq!(drawn.part, if drawn.line <= 5 { 1..6 } else { 6..14 });
+        }
+        assert_eq!(line_around(b"ab\ncd", 1), 0..2);
+        assert_eq!(line_around(b"ab\ncd", 2), 0..2);
+        assert_eq!(line_around(b"ab\ncd", 4), 3..5);
     }
 
     #[test]
@@ -213,7 +259,7 @@ mod tests {
             for _ in 0..2000 {
                 let drawn = draw(&kind, list.as_bytes(), &parts, &mut rng);
                 assert_eq!(list.as_bytes()[drawn.offset], drawn.from);
-                assert!(drawn.from != drawn.to && drawn.column() <= WIDTH);
+                assert!(drawn.from != drawn.to && drawn.column <= WIDTH);
                 assert!(![drawn.from, drawn.to].contains(&UNCOMPARED));
                 assert!(drawn.to == b' ' || drawn.to.is_ascii_graphic());
                 let mut changed = list.as_bytes().to_vec();

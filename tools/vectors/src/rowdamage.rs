@@ -20,6 +20,7 @@
 //! 15. several: the list ends in the middle of the last row
 
 use crate::listing::{IMM, RAW, RD, RS1, STRIDE};
+use crate::plan;
 use crate::rowline::{KIND, OFFSET, PROGRAMS, ROW_COUNT, WORD_COUNT};
 
 /// What a program is made of.
@@ -67,23 +68,10 @@ const PLAN: [(Shape, Damage); 15] = [
     (Several, Cut),
 ];
 
-/// Each step of the plan takes the first program that it can be done to and
-/// that has not been used yet.
 pub fn listing(list: &[u8]) -> Result<Vec<u8>, String> {
-    let mut unused = PROGRAMS.parts(list);
-    let mut output = Vec::new();
-    for (shape, damage) in PLAN {
-        let (index, damaged) = unused
-            .iter()
-            .map(|part| &list[part.clone()])
-            .enumerate()
-            .filter(|(_, program)| fits(shape, program))
-            .find_map(|(index, program)| Some((index, apply(damage, program)?)))
-            .ok_or(format!("no unused program of {shape:?} allows {damage:?}"))?;
-        unused.remove(index);
-        output.extend(damaged);
-    }
-    Ok(output)
+    plan::carry_out(&PROGRAMS, list, &PLAN, |&(shape, damage), program| {
+        fits(shape, program).then(|| apply(damage, program))?
+    })
 }
 
 fn fits(shape: Shape, program: &[u8]) -> bool {
@@ -219,6 +207,6 @@ mod tests {
     fn a_short_list_is_refused() {
         let list = expansion(&SEVERAL) + &expansion(&SHIFT);
         let message = listing(list.as_bytes()).unwrap_err();
-        assert!(message.contains("no unused program of Shift"), "{message}");
+        assert!(message.contains("allows (Shift, Text("), "{message}");
     }
 }

@@ -1,7 +1,7 @@
 //! The lines of an expansion list: for each program a line with its counts,
 //! then one line for each row of its expansion, in fixed columns.
 
-use crate::list::{lines, ListKind};
+use crate::list::{is_compared, lines, ListKind};
 use crate::listing::{raw_word, CLASS, FUNCT7, RAW, WIDTH};
 use magnetar_source::expand::{expand_program, RomRow, VirtualKind};
 use std::ops::Range;
@@ -16,8 +16,11 @@ pub const OFFSET: Range<usize> = FUNCT7;
 
 /// The lists of expanded programs.
 pub const PROGRAMS: ListKind = ListKind {
+    width: Some(WIDTH),
     begins: |line| line.starts_with(b"program:"),
     first_wrong,
+    tries: is_compared,
+    rarity: |_| 1,
 };
 
 /// The lines of a program, each with its line feed: the answer of the

@@ -11,8 +11,8 @@ const RANDOM_PER_OPCODE: usize = 150;
 const RANDOM_WORDS: usize = 1000;
 
 pub const OPCODE_BITS: u32 = 0x7f;
-const ECALL: u32 = 0x0000_0073;
-const EBREAK: u32 = 0x0010_0073;
+pub const ECALL: u32 = 0x0000_0073;
+pub const EBREAK: u32 = 0x0010_0073;
 
 /// The opcode numbers that the source matches, with the immediate format of
 /// each. The last four have no immediate; there the bits of an I immediate are

@@ -24,13 +24,16 @@ fn list(name: &str) -> String {
 
 #[test]
 fn wrong_calls_show_the_usage() {
-    let calls: [&[&str]; 6] = [
+    let calls: [&[&str]; 9] = [
         &[],
         &["encode"],
         &["decode", "list"],
         &["damage"],
         &["mutate", "true", "list"],
         &["mutate", "true", "list", "none"],
+        &["interp", "list"],
+        &["damage-calls"],
+        &["mutate-calls", "true", "list", "0"],
     ];
     for call in calls {
         let output = vectors(call);
@@ -69,4 +72,22 @@ fn a_program_that_accuses_the_good_list_fails() {
     let output = vectors(&["mutate", "echo", &list("a line 1: b"), "1"]);
     assert_eq!(output.status.code(), Some(1));
     assert!(message(&output).contains("names a line of the unchanged"));
+}
+
+/// The list of calls as the program makes it, in a file.
+#[test]
+fn lists_of_calls_are_made_damaged_and_tested() {
+    let listing = vectors(&["interp"]);
+    assert_eq!(listing.status.code(), Some(0));
+    let path = format!("{}/calls", env!("CARGO_TARGET_TMPDIR"));
+    fs::write(&path, &listing.stdout).expect("a list is written");
+
+    let damaged = vectors(&["damage-calls", &path]);
+    assert_eq!(damaged.status.code(), Some(0), "{}", message(&damaged));
+    assert!(damaged.stdout.starts_with(b"l "));
+
+    let output = vectors(&["mutate-calls", "true", &path, "3"]);
+    assert_eq!(output.status.code(), Some(1));
+    let text = String::from_utf8_lossy(&output.stdout).into_owned();
+    assert!(text.ends_with("3 mutations, 3 unnoticed\n"), "{text}");
 }

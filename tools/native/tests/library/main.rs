@@ -2,7 +2,13 @@
 
 #![forbid(unsafe_code)]
 
+mod edges;
+mod lending;
+mod lent;
 mod limits;
+mod lists;
 mod memory;
 mod random;
 mod rows;
+mod wrongcalls;
+mod wrongcycles;

@@ -1,52 +1,9 @@
 //! What is lent to a call, with guard words around it, and the comparison of
 //! all of it with what the unchanged Rust says must be there.
 
+use crate::lent::{Lent, GUARDS};
 use magnetar_native::testing::{Expansion, Rng, ADDI, SLL};
 use magnetar_native::{expand_counting, is_expansion};
-use std::fmt::LowerHex;
-
-const GUARDS: usize = 8;
-
-/// Words with guard words on both sides.
-#[derive(Clone)]
-struct Lent<T> {
-    all: Vec<T>,
-}
-
-impl<T: Copy + PartialEq + LowerHex> Lent<T> {
-    /// `guard` is given the distance from the words, negative before them.
-    fn new(words: &[T], mut guard: impl FnMut(i64) -> T) -> Self {
-        let mut all: Vec<T> = (1..=GUARDS as i64).rev().map(|at| guard(-at)).collect();
-        all.extend(words);
-        all.extend((1..=GUARDS as i64).map(guard));
-        Lent { all }
-    }
-
-    fn words(&self) -> &[T] {
-        &self.all[GUARDS..self.all.len() - GUARDS]
-    }
-
-    fn words_mut(&mut self) -> &mut [T] {
-        let end = self.all.len() - GUARDS;
-        &mut self.all[GUARDS..end]
-    }
-
-    /// An error where a word, or a guard, is not the wanted one.
-    fn compare(&self, wanted: &Self, name: &str) -> Result<(), String> {
-        assert_eq!(self.all.len(), wanted.all.len());
-        let mut pairs = self.all.iter().zip(&wanted.all);
-        match pairs.position(|(found, wanted)| found != wanted) {
-            None => Ok(()),
-            Some(at) => Err(format!(
-                "{name}, place {} of {}: {:#x}, not {:#x}",
-                at as i64 - GUARDS as i64,
-                self.words().len(),
-                self.all[at],
-                wanted.all[at]
-            )),
-        }
-    }
-}
 
 /// All that is lent to an expansion.
 #[derive(Clone)]
@@ -60,16 +17,11 @@ pub struct Memory {
 impl Memory {
     /// Buffers of these lengths, filled with random words.
     pub fn new(program: &[u32], rows: usize, starts: usize, rng: &mut Rng) -> Self {
-        let program = Lent::new(program, |_| rng.word());
-        let mut buffer = |length| {
-            let words: Vec<u64> = (0..length).map(|_| rng.doubleword()).collect();
-            Lent::new(&words, |_| rng.doubleword())
-        };
         Memory {
-            program,
-            rows: buffer(rows),
-            starts: buffer(starts),
-            count: buffer(1),
+            program: Lent::new(program, |_| rng.word()),
+            rows: Lent::buffer(rows, rng),
+            starts: Lent::buffer(starts, rng),
+            count: Lent::buffer(1, rng),
         }
     }
 
@@ -124,14 +76,9 @@ impl Memory {
     }
 }
 
-/// The library's verdict on rows. The guards go on with the stages of the first
-/// and last row, so that a read outside the rows would find what it hopes for.
+/// The library's verdict on rows.
 pub fn verdict(rows: &[u64]) -> bool {
-    let ends = (rows.first().unwrap_or(&0), rows.last().unwrap_or(&0));
-    let lent = Lent::new(rows, |at| {
-        let end = if at < 0 { ends.0 } else { ends.1 };
-        end.wrapping_add((at << 32) as u64)
-    });
+    let lent = Lent::rows(rows);
     let after = lent.clone();
     let verdict = is_expansion(after.words());
     after.compare(&lent, "rows").expect("nothing is written");

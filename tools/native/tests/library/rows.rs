@@ -4,7 +4,7 @@
 use crate::memory::verdict;
 use crate::random::any_word;
 use magnetar_native::testing::{
-    program, register_shift, stage_word, Expansion, Rng, ADDI, SLL, STAGES,
+    program, register_shift, stage_word, Expansion, Rng, Rom, ADDI, SLL, STAGES,
 };
 
 const DAMAGES: usize = 40_000;
@@ -15,11 +15,9 @@ const SLLW: u32 = 0x0020_91bb;
 const SRA: u32 = 0x4020_d1b3;
 const HIGH: u64 = u64::MAX << 32;
 
-/// What the unchanged Rust says. Only a first row is below 2^32, so the words
-/// below it are the one program whose expansion the rows can be.
+/// What the unchanged Rust says.
 fn model(rows: &[u64]) -> bool {
-    let words = rows.iter().filter_map(|&row| u32::try_from(row).ok());
-    Expansion::of(&words.collect::<Vec<u32>>()).rows == rows
+    Rom::new(rows.to_vec()).program.is_some()
 }
 
 /// How often a judge and the model said yes, said no, and did not agree.
@@ -56,7 +54,7 @@ fn place(rows: &[u64], rng: &mut Rng) -> usize {
     }
 }
 
-fn damage(rows: &mut Vec<u64>, rng: &mut Rng) {
+pub fn damage(rows: &mut Vec<u64>, rng: &mut Rng) {
     let at = place(rows, rng);
     let near = (at + 1 + rng.below(3)) % rows.len();
     match rng.below(8) {

@@ -1,16 +1,16 @@
--- `interp::finish` meets its contract. Assumes nothing.
+-- `interp::commit` meets its contract. Assumes nothing.
 use native.Mathlib.Numerals.{add-one}
 use Rattle.interp.specs.Cycle.{commit}
 use borrow.Author.Needs.{needs}
-use Rattle.interp.proofs.finish.Statement.{statement}
-use Rattle.interp.proofs.finish.Tie as tie
+use Rattle.interp.proofs.commit.Statement.{statement}
+use Rattle.interp.proofs.commit.Tie as tie
 
 returns : tie.Need-returns
 unfolding commit
 returns c = let done = c .before .before .before .before .put-effect .ensures in (simp (c .output-after .ensures, done .0, done .1 .0, add-one), done .1 .1)
 
-pub finish-spec : {M : Type 1} → statement M
-finish-spec =
+pub commit-spec : {M : Type 1} → statement M
+commit-spec =
     tie.close
     (tie.spec
     (λ c κs. search needs)

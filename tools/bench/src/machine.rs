@@ -1,0 +1,214 @@
+//! One loop run in segments, timed in the Rust and in the library.
+
+use crate::mix::timed;
+use magnetar_native::testing::{image_of, pack, Expansion};
+use magnetar_native::{padding, segment, start, Cursor, Refusal, RECORD_WORDS};
+use magnetar_source::expand::{expand_program, ExpandedProgram};
+use magnetar_source::interp::{CycleRecord, StreamCursor};
+use std::hint::black_box;
+use std::time::Duration;
+
+/// The cycles that a round times: several segments of each length, because the
+/// first may have to fetch its memory again.
+const CYCLES_A_ROUND: usize = 1 << 18;
+const COMPARED: usize = 3;
+
+/// A program, and the library's call that runs it.
+pub struct Loop {
+    pub name: &'static str,
+    pub program: &'static [u32],
+    pub call: Call,
+}
+
+type Call = fn(&[u64], &mut Cursor, u64, &mut [u64]) -> Result<(), Refusal>;
+
+/// Programs that loop without end, and one that halts. A target counts rows, of
+/// which a register shift has six.
+pub const LOOPS: [Loop; 6] = [
+    Loop {
+        name: "ALU",
+        program: &[
+            0x0010_8093, // addi x1,x1,1
+            0x0011_0133, // add x2,x2,x1
+            0x0021_c1b3, // xor x3,x3,x2
+            0x4011_8233, // sub x4,x3,x1
+            0x0032_1293, // slli x5,x4,3
+            0x0032_e333, // or x6,x5,x3
+            0x0061_33b3, // sltu x7,x2,x6
+            0xfe5f_f06f, // jal x0,.-28
+        ],
+        call: segment,
+    },
+    Loop {
+        name: "load and store",
+        program: &[
+            0x0000_b103, // ld x2,0(x1)
+            0x0020_b423, // sd x2,8(x1)
+            0x0030_c183, // lbu x3,3(x1)
+            0x0030_9aa3, // sh x3,21(x1)
+            0x0120_d203, // lhu x4,18(x1)
+            0x0040_ae23, // sw x4,28(x1)
+            0x0080_8093, // addi x1,x1,8
+            0xfe5f_f06f, // jal x0,.-28
+        ],
+        call: segment,
+    },
+    Loop {
+        name: "register shifts",
+        program: &[
+            0x0011_11b3, // sll x3,x2,x1
+            0x0011_d233, // srl x4,x3,x1
+            0x4011_d2b3, // sra x5,x3,x1
+            0x0010_8093, // addi x1,x1,1
+            0xfb5f_f06f, // jal x0,.-76
+        ],
+        call: segment,
+    },
+    Loop {
+        name: "mixed, branches",
+        program: &[
+            0x1234_50b7, // lui x1,0x12345
+            0x0011_0113, // addi x2,x2,1
+            0x0071_7193, // andi x3,x2,7
+            0x0001_8663, // beq x3,x0,.+12
+            0x0020_80b3, // add x1,x1,x2
+            0x0011_3023, // sd x1,0(x2)
+            0x0001_4203, // lbu x4,0(x2)
+            0x0032_12b3, // sll x5,x4,x3
+            0x0000_1317, // auipc x6,1
+            0x0040_03ef, // jal x7,.+4
+            0xfc01_12e3, // bne x2,x0,.-60
+        ],
+        call: segment,
+    },
+    Loop {
+        name: "halted, segment",
+        program: &HALTING,
+        call: segment,
+    },
+    Loop {
+        name: "halted, padding",
+        program: &HALTING,
+        call: padding,
+    },
+];
+
+/// addi x10,x0,5, and ecall.
+const HALTING: [u32; 2] = [0x0050_0513, 0x0000_0073];
+
+/// A loop, a cursor of the Rust and one of the library, their buffers, and the
+/// best times of a segment so far.
+pub struct Machine {
+    pub name: &'static str,
+    pub cycles: usize,
+    call: Call,
+    rows: Vec<u64>,
+    program: ExpandedProgram,
+    cursor: Cursor,
+    source_cursor: StreamCursor,
+    records: Vec<u64>,
+    packed_records: Vec<u64>,
+    source: Duration,
+    packed: Duration,
+    library: Duration,
+}
+
+impl Machine {
+    /// An error if Rust and library do not agree on the first segments.
+    pub fn new(of: &Loop, cycles: usize) -> Result<Machine, String> {
+        let input: Vec<u64> = (0..256).map(|word| word << 32 | word).collect();
+        let mut machine = Machine {
+            name: of.name,
+            cycles,
+            call: of.call,
+            rows: Expansion::of(of.program).rows,
+            program: expand_program(of.program),
+            cursor: start(&input),
+            source_cursor: StreamCursor::start(&input),
+            records: vec![0; cycles * RECORD_WORDS],
+            packed_records: vec![0; cycles * RECORD_WORDS],
+            source: Duration::MAX,
+            packed: Duration::MAX,
+            library: Duration::MAX,
+        };
+        if of.program == HALTING {
+            machine.halt().map_err(|refusal| refusal.to_string())?;
+        }
+        for _ in 0..COMPARED {
+            machine.run_packed();
+            let answer = machine.run_library();
+            let is_same = *machine.cursor.image() == image_of(&machine.source_cursor);
+            if answer.is_err() || !is_same || machine.records != machine.packed_records {
+                return Err(format!("{}: the library's call is wrong", of.name));
+            }
+        }
+        Ok(machine)
+    }
+
+    /// Runs both machines until they halt, so that only padding is timed.
+    fn halt(&mut self) -> Result<(), Refusal> {
+        let cycles = HALTING.len();
+        self.source_cursor.run_segment(&self.program, cycles);
+        segment(
+            &self.rows,
+            &mut self.cursor,
+            cycles as u64,
+            &mut self.records,
+        )
+    }
+
+    fn run_source(&mut self) -> Vec<CycleRecord> {
+        let program = black_box(&self.program);
+        self.source_cursor.run_segment(program, self.cycles)
+    }
+
+    /// Gives the records too, so that the caller drops them untimed.
+    fn run_packed(&mut self) -> Vec<CycleRecord> {
+        let records = self.run_source();
+        let places = self.packed_records.chunks_exact_mut(RECORD_WORDS);
+        for (record, place) in records.iter().zip(places) {
+            place.copy_from_slice(&pack(record));
+        }
+        records
+    }
+
+    fn run_library(&mut self) -> Result<(), Refusal> {
+        let (rows, cycles) = (black_box(&self.rows), self.cycles as u64);
+        (self.call)(rows, &mut self.cursor, cycles, &mut self.records)
+    }
+
+    /// Times each of the three in turn.
+    pub fn round(&mut self) {
+        for _ in 0..CYCLES_A_ROUND.div_ceil(self.cycles) {
+            self.source = self.source.min(timed(|| self.run_source()).0);
+            self.packed = self.packed.min(timed(|| self.run_packed()).0);
+            self.library = self.library.min(timed(|| self.run_library()).0);
+        }
+    }
+
+    /// The speed of the Rust, of the Rust with packed records, and of the library.
+    pub fn records_per_microsecond(&self) -> [f64; 3] {
+        let times = [self.source, self.packed, self.library];
+        times.map(|time| self.cycles as f64 / time.as_secs_f64() / 1e6)
+    }
+}
+
+#[cfg(test)]
+mod tests {
+    use super::*;
+    use std::collections::HashSet;
+
+    /// A loop that left rows out would time something else than its name says.
+    #[test]
+    fn loops_run_all_their_rows() {
+        for of in &LOOPS {
+            let mut machine = Machine::new(of, 1000).expect("answers that agree");
+            let records = machine.run_source();
+            let visited: HashSet<usize> = records.iter().map(|record| record.micro_pc).collect();
+            let is_halting = of.program == HALTING;
+            let rows = if is_halting { 1 } else { machine.rows.len() };
+            assert_eq!(visited.len(), rows, "{}", of.name);
+            assert_eq!(machine.cursor.is_halted(), is_halting, "{}", of.name);
+        }
+    }
+}

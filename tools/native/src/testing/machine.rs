@@ -1,0 +1,274 @@
+//! Segment and padding calls, by the table of refusals and the unchanged Rust.
+
+use super::row_word;
+use crate::{Cursor, Image, RECORD_WORDS};
+use magnetar_source::expand::{expand_program, ExpandedProgram};
+use magnetar_source::interp::{pad_records, CycleRecord, ExecState, StreamCursor};
+
+const MOST_CYCLES: u128 = 1 << 62;
+
+/// The calls that run a machine.
+#[derive(Clone, Copy, Debug, PartialEq, Eq)]
+pub enum Call {
+    Segment,
+    Padding,
+}
+
+/// Rows, and what the unchanged Rust runs in their place if they are an
+/// expansion.
+pub struct Rom {
+    pub rows: Vec<u64>,
+    pub program: Option<ExpandedProgram>,
+}
+
+impl Rom {
+    /// Only a first row is below 2^32, so the words below it are the one program
+    /// whose expansion the rows can be.
+    pub fn new(rows: Vec<u64>) -> Self {
+        let words = rows.iter().filter_map(|&row| u32::try_from(row).ok());
+        let program = expand_program(&words.collect::<Vec<u32>>());
+        let is_expansion = program.rows.iter().map(row_word).eq(rows.iter().copied());
+        Rom {
+            rows,
+            program: is_expansion.then_some(program),
+        }
+    }
+
+    pub fn of(program: &[u32]) -> Self {
+        let program = expand_program(program);
+        Rom {
+            rows: program.rows.iter().map(row_word).collect(),
+            program: Some(program),
+        }
+    }
+}
+
+/// The number of the refusal, or 0, for a record buffer of `room` words. In
+/// u128 nothing wraps.
+pub fn refusal(call: Call, rom: &Rom, image: &Image, length: u64, room: usize) -> u64 {
+    let rows = rom.rows.len();
+    let outside = |place: usize| u128::from(image[place]) >= rows as u128;
+    let sum = u128::from(image[Cursor::CYCLES]) + u128::from(length);
+    let table = [
+        rows == 0,
+        rows > 6_291_456,
+        rom.program.is_none(),
+        outside(Cursor::MICRO_PC) || outside(Cursor::NEXT_FETCH),
+        call == Call::Segment && sum > MOST_CYCLES,
+        (room as u128) < 17 * u128::from(length),
+    ];
+    let lowest = table.iter().position(|&met| met);
+    lowest.map_or(0, |line| line as u64 + 1)
+}
+
+/// The answer of a call, which leaves image and records as the library must.
+pub fn model(call: Call, rom: &Rom, image: &mut Image, length: u64, records: &mut [u64]) -> u64 {
+    let answer = refusal(call, rom, image, length, records.len());
+    if answer == 0 {
+        let program = rom.program.as_ref().expect("accepted rows");
+        let mut cursor = cursor_of(image);
+        let log = run_source(call, program, &mut cursor, length as usize);
+        for (record, place) in log.iter().zip(records.chunks_exact_mut(RECORD_WORDS)) {
+            place.copy_from_slice(&pack(record));
+        }
+        *image = image_of(&cursor);
+    }
+    answer
+}
+
+/// An accepted call by the unchanged Rust.
+pub fn run_source(
+    call: Call,
+    program: &ExpandedProgram,
+    cursor: &mut StreamCursor,
+    length: usize,
+) -> Vec<CycleRecord> {
+    match call {
+        Call::Segment => cursor.run_segment(program, length),
+        Call::Padding => {
+            let last = CycleRecord {
+                next_pc: cursor.next_fetch,
+                ..Default::default()
+            };
+            let mut records = vec![last];
+            pad_records(&mut records, &mut cursor.st, program, length + 1);
+            records.split_off(1)
+        }
+    }
+}
+
+/// The source's cursor of an image whose rows are inside.
+pub fn cursor_of(image: &Image) -> StreamCursor {
+    let count = |place: usize| usize::try_from(image[place]).expect("a usize of 64 bits");
+    StreamCursor {
+        st: ExecState {
+            regs: std::array::from_fn(|at| image[Cursor::REGS.start + at]),
+            ram: image[Cursor::RAM].to_vec(),
+            micro_pc: count(Cursor::MICRO_PC),
+            cycles: count(Cursor::CYCLES),
+            halted: image[Cursor::HALTED] != 0,
+            output: image[Cursor::OUTPUT],
+        },
+        next_fetch: count(Cursor::NEXT_FETCH),
+    }
+}
+
+pub fn image_of(cursor: &StreamCursor) -> Image {
+    let mut image = [0; Cursor::WORDS];
+    image[Cursor::REGS].copy_from_slice(&cursor.st.regs);
+    image[Cursor::RAM].copy_from_slice(&cursor.st.ram);
+    image[Cursor::MICRO_PC] = cursor.st.micro_pc as u64;
+    image[Cursor::CYCLES] = cursor.st.cycles as u64;
+    image[Cursor::HALTED] = u64::from(cursor.st.halted);
+    image[Cursor::OUTPUT] = cursor.st.output;
+    image[Cursor::NEXT_FETCH] = cursor.next_fetch as u64;
+    image
+}
+
+/// The 17 words of a record. Inline, because the benchmark times it.
+#[inline]
+pub fn pack(record: &CycleRecord) -> [u64; RECORD_WORDS] {
+    [
+        record.micro_pc as u64,
+        record.rs1_val,
+        record.rs2_val,
+        record.rd_val,
+        record.rd_old,
+        record.rd as u64,
+        record.ram_addr as u64,
+        record.ram_word,
+        record.ram_old,
+        record.ram_new,
+        record.store_src,
+        record.next_pc as u64,
+        record.alu_a,
+        record.alu_b,
+        record.alu_out,
+        record.shift_out,
+        u64::from(record.byte_offset) | u64::from(record.store_width) << 8 | flags(record) << 16,
+    ]
+}
+
+#[inline]
+fn flags(record: &CycleRecord) -> u64 {
+    let flags = [
+        record.we,
+        record.branch_taken,
+        record.is_arith,
+        record.is_logic,
+        record.is_sub_op,
+        record.is_shift,
+        record.is_load,
+        record.is_store,
+        record.ld_byte,
+        record.ld_half,
+        record.ld_word,
+        record.halted_latch,
+    ];
+    let bits = flags.iter().zip(0..);
+    bits.fold(0, |word, (&flag, bit)| word | u64::from(flag) << bit)
+}
+
+#[cfg(test)]
+mod tests {
+    use super::super::{program, register_shift, Rng, ADDI, SLL};
+    use super::*;
+
+    const ECALL: u32 = 0x0000_0073;
+    /// The records of `ADDI` and `ECALL` that the specification prints.
+    const FIRST: [u64; 17] = [0, 0, 0, 5, 0, 10, 0, 0, 0, 0, 0, 1, 0, 5, 5, 0, 327680];
+    const SECOND: [u64; 17] = [1, 5, 0, 5, 0, 32, 0, 0, 0, 0, 0, 1, 5, 0, 5, 0, 134217728];
+
+    #[test]
+    fn the_records_of_the_specification() {
+        let rom = Rom::of(&[ADDI, ECALL]);
+        let mut image = [0; Cursor::WORDS];
+        let mut records = [7; 35];
+        assert_eq!(model(Call::Segment, &rom, &mut image, 2, &mut records), 0);
+        assert_eq!(records, [&FIRST[..], &SECOND, &[7]].concat()[..]);
+        let cursor = Cursor::new(image);
+        assert_eq!((cursor.cycles(), cursor.output()), (2, 5));
+        assert_eq!((cursor.micro_pc(), cursor.next_fetch()), (1, 1));
+        assert!(cursor.is_halted());
+    }
+
+    /// 0 cycles of the program are padded to one, a latch of row 0.
+    #[test]
+    fn padding_of_a_live_machine() {
+        let rom = Rom::of(&[ADDI, ECALL]);
+        let mut image = [0; Cursor::WORDS];
+        image[10] = 3;
+        let mut records = [7; 17];
+        assert_eq!(model(Call::Padding, &rom, &mut image, 1, &mut records), 0);
+        let latch = [0, 0, 0, 0, 3, 10, 0, 0, 0, 0, 0, 0, 0, 0, 0, 0, 134217728];
+        assert_eq!(records, latch);
+        assert_eq!(image, [0; Cursor::WORDS]);
+    }
+
+    /// In the order of the specification.
+    const FLAGS: [fn(&mut CycleRecord) -> &mut bool; 12] = [
+        |record| &mut record.we,
+        |record| &mut record.branch_taken,
+        |record| &mut record.is_arith,
+        |record| &mut record.is_logic,
+        |record| &mut record.is_sub_op,
+        |record| &mut record.is_shift,
+        |record| &mut record.is_load,
+        |record| &mut record.is_store,
+        |record| &mut record.ld_byte,
+        |record| &mut record.ld_half,
+        |record| &mut record.ld_word,
+        |record| &mut record.halted_latch,
+    ];
+
+    #[test]
+    fn every_flag_has_its_own_bit() {
+        for (number, flag) in FLAGS.into_iter().enumerate() {
+            let mut record = CycleRecord {
+                byte_offset: 7,
+                store_width: 8,
+                ..Default::default()
+            };
+            *flag(&mut record) = true;
+            assert_eq!(pack(&record)[16], 0x0807 | 0x1_0000 << number);
+        }
+    }
+
+    #[test]
+    fn rows_are_an_expansion_or_not() {
+        let shifts = program(9, &mut Rng::new(1), register_shift);
+        let mut rom = Rom::new(Rom::of(&shifts).rows);
+        assert_eq!(rom.program.map(|program| program.rows.len()), Some(54));
+        rom.rows.pop();
+        assert!(Rom::new(rom.rows).program.is_none());
+    }
+
+    /// A cursor and buffer that nothing is wrong with, and one change each.
+    #[test]
+    fn the_table_of_refusals() {
+        let rom = Rom::of(&[ADDI, SLL]);
+        let answer = |call, rom: &Rom, place: usize, word, length, room| {
+            let mut image = [0; Cursor::WORDS];
+            image[place] = word;
+            refusal(call, rom, &image, length, room)
+        };
+        for call in [Call::Segment, Call::Padding] {
+            let at = |place, word| answer(call, &rom, place, word, 2, 34);
+            assert_eq!(at(Cursor::OUTPUT, u64::MAX), 0);
+            assert_eq!((at(Cursor::MICRO_PC, 6), at(Cursor::MICRO_PC, 7)), (0, 4));
+            assert_eq!(
+                (at(Cursor::NEXT_FETCH, 6), at(Cursor::NEXT_FETCH, 7)),
+                (0, 4)
+            );
+            assert_eq!(answer(call, &rom, 0, 0, 2, 33), 6);
+            assert_eq!(answer(call, &rom, 0, 0, u64::MAX / 17 + 1, 34), 6);
+            assert_eq!(answer(call, &Rom::new(vec![]), 0, 0, 2, 34), 1);
+            assert_eq!(answer(call, &Rom::new(vec![1 << 32]), 0, 0, 2, 34), 3);
+        }
+        let cycles = |call, cycles| answer(call, &rom, Cursor::CYCLES, cycles, 2, 34);
+        assert_eq!(cycles(Call::Segment, (1 << 62) - 2), 0);
+        assert_eq!(cycles(Call::Segment, (1 << 62) - 1), 5);
+        assert_eq!(cycles(Call::Segment, u64::MAX), 5);
+        assert_eq!(cycles(Call::Padding, u64::MAX), 0);
+    }
+}
