@@ -1,10 +1,37 @@
-// The C interface over plain words. A slice is a pointer and a length: not null and aligned, also where the length is
-// 0; buffers lent to one call do not overlap. 0 is accepted, any other number a refusal of document 01's table, after
-// which nothing behind any pointer has changed.
+// The C interface over plain words. A slice is a pointer and a length, an array a pointer: not null and aligned, also
+// where the length is 0; buffers lent to one call do not overlap. Where a call can be refused, 0 is accepted and any other
+// number a refusal of document 01's table, after which nothing behind any pointer has changed.
 ghost use mathlib.Core.Path.{_≡_};
+ghost use mathlib.Core.Bool.{cond};
+ghost use Prim.Native.Nat.{_+_, _≤_};
+ghost use lib.Dec.{eqb};
+ghost use lib.ListN.{length, drop};
+ghost use lib.Seq.{paste};
 ghost use Rattle.expand.specs.Expand.{answerOf, rowsAfter, startsAfter, isExpansion};
+ghost use Rattle.interp.specs.Machine.{startOf};
+ghost use Rattle.interp.specs.Calls.{segment, padded, outcomeNumber};
+ghost use Rattle.interp.specs.Calls as calls;
 ghost use Rattle.magnetar_cpu.specs.Words.{wordOf, countAfter};
+ghost use Rattle.magnetar_cpu.specs.Image.{cursorOf, imageOf, imageAfter};
 use expand::Expanded;
+use expand::MicroPc;
+use interp::Answer;
+use interp::Cursor;
+use interp::Outcome;
+
+// The words of a cursor's image: 64 registers, 256 words of RAM, and the five words at the places below. Any halted word
+// but 0 is a halted machine; 0 or 1 is written.
+const IMAGE_WORDS: usize = 325;
+
+const MICRO_PC: usize = 320;
+
+const CYCLES: usize = 321;
+
+const HALTED: usize = 322;
+
+const OUTPUT: usize = 323;
+
+const NEXT_FETCH: usize = 324;
 
 // Expands a program: its row words go to the first places of `rows`, the position of each word's first row to those of
 // `starts`, and the count of rows to `count`. 1: no words; 2: more than 1,048,576 words; 6: `rows` is shorter than the
@@ -36,4 +63,109 @@ pub extern "C" fn magnetar_is_expansion(rows: &[u64]) -> u64
     ensures { λ r. ⌜ r ≡ wordOf (isExpansion (now (rows .entry))) ⌝ }
 {
     if expand::is_expansion(rows) { 1 } else { 0 }
+}
+
+// ---- cursors
+
+// Copies n words, from place a of `from` on to place b of `to` on.
+fn copy(from: &[u64], a: usize, to: &mut [u64], b: usize, n: usize)
+    requires { ⌜ (a + n ≤ length (now from)) × (b + n ≤ length (now to)) ⌝ }
+    ensures { λ _. ⌜ now (to .exit) ≡ paste (now (to .entry)) b (drop a (now (from .entry))) n ⌝ }
+{
+    let mut i: usize = 0;
+    while i < n {
+        to[b + i] = from[a + i];
+        i += 1;
+    }
+}
+
+// The cursor of an image.
+fn read_cursor(image: &[u64; IMAGE_WORDS]) -> Cursor
+    ensures { λ r. ⌜ r ≡ cursorOf (now (image .entry)) ⌝ }
+{
+    let mut regs = [0u64; Cursor::REGS];
+    copy(image, 0, &mut regs, 0, Cursor::REGS);
+    let mut ram = [0u64; Cursor::RAM_WORDS];
+    copy(image, Cursor::REGS, &mut ram, 0, Cursor::RAM_WORDS);
+    Cursor {
+        regs: regs,
+        ram: ram,
+        micro_pc: MicroPc(image[MICRO_PC] as usize),
+        cycles: image[CYCLES],
+        halted: image[HALTED] != 0,
+        output: image[OUTPUT],
+        next_fetch: MicroPc(image[NEXT_FETCH] as usize),
+    }
+}
+
+// Writes the image of a cursor.
+fn write_cursor(c: Cursor, image: &mut [u64; IMAGE_WORDS])
+    ensures { λ _. ⌜ now (image .exit) ≡ imageOf c ⌝ }
+{
+    copy(&c.regs, 0, image, 0, Cursor::REGS);
+    copy(&c.ram, 0, image, Cursor::REGS, Cursor::RAM_WORDS);
+    image[MICRO_PC] = c.micro_pc.0 as u64;
+    image[CYCLES] = c.cycles;
+    image[HALTED] = c.halted as u64;
+    image[OUTPUT] = c.output;
+    image[NEXT_FETCH] = c.next_fetch.0 as u64;
+}
+
+// The number of an answer. If it is 0, the answer's cursor goes to `image`; if not, `image` stays as it was.
+fn settle(answer: Answer, image: &mut [u64; IMAGE_WORDS]) -> u64
+    ensures { λ r. ⌜ r ≡ outcomeNumber (answer .outcome) ⌝ }
+    ensures { λ _. ⌜ now (image .exit) ≡ cond (eqb (outcomeNumber (answer .outcome)) 0) (imageOf (answer .cursor)) (now (image .entry)) ⌝ }
+{
+    let outcome = answer.outcome;
+    if let Outcome::Refused(e) = outcome {
+        return e.number();
+    }
+    let after = answer.cursor;
+    write_cursor(after, image);
+    0
+}
+
+// Writes the fresh cursor to `cursor`: all words 0, but RAM holds the first 256 words of `input`, and 0 after them. It
+// refuses nothing.
+#[no_mangle]
+pub extern "C" fn magnetar_start(input: &[u64], cursor: &mut [u64; IMAGE_WORDS])
+    ensures { λ _. ⌜ now (cursor .exit) ≡ imageOf (startOf (now (input .entry))) ⌝ }
+{
+    write_cursor(Cursor::start(input), cursor);
+}
+
+// The segment call: `length` cycles, live until the machine halts, then padding. Their records, 17 words each, go to the
+// first places of `records`, and the cursor after them to `cursor`. 1: no rows; 2: more than 6,291,456 rows; 3: the rows
+// are not the expansion of a program; 4: micro_pc or next_fetch is no row; 5: cycles and `length` are over 2^62 together;
+// 6: `records` has fewer than 17 words a cycle.
+#[no_mangle]
+pub extern "C" fn magnetar_segment(
+    rows: &[u64],
+    cursor: &mut [u64; IMAGE_WORDS],
+    length: u64,
+    records: &mut [u64],
+) -> u64
+    ensures answer { λ r. ⌜ r ≡ calls.answerOf (now (rows .entry)) (cursorOf (now (cursor .entry))) (segment length (now (records .entry))) .number ⌝ }
+    ensures cursor { λ r. ⌜ now (cursor .exit) ≡ imageAfter (calls.answerOf (now (rows .entry)) (cursorOf (now (cursor .entry))) (segment length (now (records .entry)))) (now (cursor .entry)) ⌝ }
+    ensures records { λ r. ⌜ now (records .exit) ≡ calls.answerOf (now (rows .entry)) (cursorOf (now (cursor .entry))) (segment length (now (records .entry))) .buffer ⌝ }
+{
+    let before = read_cursor(cursor);
+    settle(interp::run_segment(rows, before, length, records), cursor)
+}
+
+// The padding call: `length` padding cycles at row next_fetch, also on a live machine. Records, cursor and refusals are
+// those of the segment call, but 5 is none of them.
+#[no_mangle]
+pub extern "C" fn magnetar_padding(
+    rows: &[u64],
+    cursor: &mut [u64; IMAGE_WORDS],
+    length: u64,
+    records: &mut [u64],
+) -> u64
+    ensures answer { λ r. ⌜ r ≡ calls.answerOf (now (rows .entry)) (cursorOf (now (cursor .entry))) (padded length (now (records .entry))) .number ⌝ }
+    ensures cursor { λ r. ⌜ now (cursor .exit) ≡ imageAfter (calls.answerOf (now (rows .entry)) (cursorOf (now (cursor .entry))) (padded length (now (records .entry)))) (now (cursor .entry)) ⌝ }
+    ensures records { λ r. ⌜ now (records .exit) ≡ calls.answerOf (now (rows .entry)) (cursorOf (now (cursor .entry))) (padded length (now (records .entry))) .buffer ⌝ }
+{
+    let before = read_cursor(cursor);
+    settle(interp::pad_records(rows, before, length, records), cursor)
 }
