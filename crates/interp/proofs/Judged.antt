@@ -12,8 +12,8 @@ use Rattle.interp.specs.declared.Cursor.{Cursor}
 use Rattle.interp.specs.declared.Refusal.{Refusal}
 use Rattle.interp.specs.declared.Refusal.the-variants.{NoRows, TooManyRows, NoExpansion, OutsideRows, TooManyCycles, Short}
 use Rattle.interp.specs.Machine.{flat}
-use Rattle.interp.specs.Code.{coreOf, Ready}
-use Rattle.interp.specs.Calls.{recorded, end, Call, amount, lent, turn, refusals, refusalOf, settled, answerOf, numberOf}
+use Rattle.interp.specs.Code.{coreOf, Ready, stepOf, callOf}
+use Rattle.interp.specs.Calls.{recorded, end, Call, isSegment, amount, lent, turn, refusals, refusalOf, settled, answerOf, numberOf}
 
 -- tests that hold together are equal
 same-test : (a b x y : ℕ) → (a < b → x < y) → (b ≤ a → y ≤ x) → ltb a b ≡ ltb x y
@@ -66,6 +66,14 @@ accepted rows c live n room e =
 
 -- ---- the answers
 
+-- the number that a call returns is that of the tests
+pub judged : (live : Bool) (rows : List ℕ) (c : Cursor) (n : ℕ) (buffer : List ℕ)
+    → lowest (refusals rows c live n (length buffer)) ≡ refusalOf rows c (callOf live n buffer)
+unfolding refusalOf isSegment amount lent
+judged true rows c n buffer = refl
+judged false rows c n buffer = refl
+
+-- a refusal has a number that is not 0, and the call leaves all as it was
 refused-leaves : (why : Refusal) (rows : List ℕ) (c : Cursor) (k : Call)
     → settled (numberOf why) rows c k ≡ record { number = numberOf why; cursor = c; buffer = lent k }
 unfolding settled
@@ -76,17 +84,28 @@ refused-leaves OutsideRows rows c k = refl
 refused-leaves TooManyCycles rows c k = refl
 refused-leaves Short rows c k = refl
 
-pub refused-answer : (why : Refusal) (rows : List ℕ) (c : Cursor) (k : Call) → numberOf why ≡ refusalOf rows c k
-    → answerOf rows c k ≡ record { number = numberOf why; cursor = c; buffer = lent k }
-unfolding answerOf
-refused-answer why rows c k e = rw (sym e) (refused-leaves why rows c k)
+lent-is : (live : Bool) (n : ℕ) (buffer : List ℕ) → lent (callOf live n buffer) ≡ buffer
+unfolding lent
+lent-is true n buffer = refl
+lent-is false n buffer = refl
 
-pub accepted-answer : (rows : List ℕ) (c : Cursor) (k : Call) → 0 ≡ refusalOf rows c k
-    → answerOf rows c k
-    ≡ record {
-      number = 0;
-      cursor = end (turn k rows) (amount k) c;
-      buffer = flat (recorded (turn k rows) (amount k) c) ++ drop (17 * amount k) (lent k);
-    }
-unfolding answerOf settled
-accepted-answer rows c k e = rw (sym e) refl
+pub refused-answer : (why : Refusal) (live : Bool) (rows : List ℕ) (c : Cursor) (n : ℕ) (buffer : List ℕ)
+    → numberOf why ≡ lowest (refusals rows c live n (length buffer))
+    → answerOf rows c (callOf live n buffer) ≡ record { number = numberOf why; cursor = c; buffer = buffer }
+unfolding answerOf
+refused-answer why live rows c n buffer e =
+    rw (sym (e ∙ judged live rows c n buffer)) (refused-leaves why rows c (callOf live n buffer) ∙ rw (lent-is live n buffer) refl)
+
+-- an accepted call runs its cycles
+ran : (live : Bool) (rows : List ℕ) (c : Cursor) (n : ℕ) (buffer : List ℕ)
+    → settled 0 rows c (callOf live n buffer)
+    ≡ record { number = 0; cursor = end (stepOf live rows) n c; buffer = flat (recorded (stepOf live rows) n c) ++ drop (17 * n) buffer }
+unfolding settled turn amount lent
+ran true rows c n buffer = refl
+ran false rows c n buffer = refl
+
+pub accepted-answer : (live : Bool) (rows : List ℕ) (c : Cursor) (n : ℕ) (buffer : List ℕ) → 0 ≡ lowest (refusals rows c live n (length buffer))
+    → answerOf rows c (callOf live n buffer)
+    ≡ record { number = 0; cursor = end (stepOf live rows) n c; buffer = flat (recorded (stepOf live rows) n c) ++ drop (17 * n) buffer }
+unfolding answerOf
+accepted-answer live rows c n buffer e = rw (sym (e ∙ judged live rows c n buffer)) (ran live rows c n buffer)

@@ -8,6 +8,7 @@ use Rattle.interp.specs.declared.Core.{Core}
 use Rattle.interp.specs.declared.Cursor.{Cursor}
 use Rattle.interp.specs.declared.Effect.{Effect}
 use Rattle.interp.specs.Cycle.{Step, cycle, padding}
+use Rattle.interp.specs.Calls.{Call, segment, padded}
 
 -- a row's registers are x0 to x31
 pub record InRange (row : RomRow) : Type 0 where
@@ -56,3 +57,7 @@ pub record Ready (count : ℕ) (k : Core) (live : Bool) (n room : ℕ) : Type 0 
 -- the cycle of a call: of a segment call if live, else of a padding call
 abbrev pub stepOf : Bool → List ℕ → Cursor → Step
 stepOf live rows = cond live (cycle rows) (padding rows)
+
+-- the segment call if live, else the padding call
+abbrev pub callOf : Bool → ℕ → List ℕ → Call
+callOf live n buffer = cond live (segment n buffer) (padded n buffer)

@@ -11,7 +11,7 @@ ghost use Rattle.values.specs.Values.{branchTarget};
 ghost use Rattle.interp.specs.Machine.{startOf, words, flat};
 ghost use Rattle.interp.specs.Cycle.{redirect, writes, keeps, noAccess, shows, effect, subFlag, aluFlags, shiftOut, aluArm, stageEffect, stageArm, loadFlag, loadFlags, loadArm, storeArm, branchFlags, branchArm, upperArm, jumpTarget, jumpArm, systemArm, paddingArm, recordOf, scratched, regsAfter, ramAfter, commit, stepAt, frozenAt};
 ghost use Rattle.interp.specs.Calls.{recorded, end, segment, padded, refusals, answerOf, numberOf, outcomeNumber};
-ghost use Rattle.interp.specs.Code.{InRange, Sound, whole, coreOf, stepOf, Ready};
+ghost use Rattle.interp.specs.Code.{InRange, Sound, whole, coreOf, stepOf, callOf, Ready};
 ghost use Rattle.interp.specs.Demand3.{Demand3};
 use expand::MicroPc;
 use expand::RomRow;
@@ -955,21 +955,20 @@ fn judge(rows: &[u64], c: Cursor, live: bool, n: u64, room: usize) -> Outcome
     Outcome::Accepted
 }
 
-// The segment call: n cycles, live until the machine halts, then padding. Their records go to the first 17 n words of
-// `records`. A refused call leaves `records` as it was and returns the cursor that it got.
-pub fn run_segment(rows: &[u64], cursor: Cursor, n: u64, records: &mut [u64]) -> Answer
-    ensures answer { λ r. ⌜ outcomeNumber (r .outcome) ≡ answerOf (now (rows .entry)) cursor (segment n (now (records .entry))) .number ⌝ }
-    ensures cursor { λ r. ⌜ r .cursor ≡ answerOf (now (rows .entry)) cursor (segment n (now (records .entry))) .cursor ⌝ }
-    ensures records { λ _. ⌜ now (records .exit) ≡ answerOf (now (rows .entry)) cursor (segment n (now (records .entry))) .buffer ⌝ }
+// What both calls do: the segment call if `live`, else the padding call.
+fn answer_call(live: bool, rows: &[u64], cursor: Cursor, n: u64, records: &mut [u64]) -> Answer
+    ensures answer { λ r. ⌜ outcomeNumber (r .outcome) ≡ answerOf (now (rows .entry)) cursor (callOf live n (now (records .entry))) .number ⌝ }
+    ensures cursor { λ r. ⌜ r .cursor ≡ answerOf (now (rows .entry)) cursor (callOf live n (now (records .entry))) .cursor ⌝ }
+    ensures records { λ _. ⌜ now (records .exit) ≡ answerOf (now (rows .entry)) cursor (callOf live n (now (records .entry))) .buffer ⌝ }
 {
-    let outcome = judge(rows, cursor, true, n, records.len());
+    let outcome = judge(rows, cursor, live, n, records.len());
     match outcome {
         Outcome::Refused(_) => Answer {
             outcome: outcome,
             cursor: cursor,
         },
         Outcome::Accepted => {
-            let after = cycles_of(true, rows, cursor, n as usize, records);
+            let after = cycles_of(live, rows, cursor, n as usize, records);
             Answer {
                 outcome: outcome,
                 cursor: after,
@@ -978,26 +977,24 @@ pub fn run_segment(rows: &[u64], cursor: Cursor, n: u64, records: &mut [u64]) ->
     }
 }
 
-// The padding call: n padding cycles at row next_fetch, also on a live machine.
+// The segment call: n cycles, live until the machine halts, then padding. Their records go to the first 17 n words of
+// `records`. A refused call leaves `records` as it was and returns the cursor that it got.
+pub fn run_segment(rows: &[u64], cursor: Cursor, n: u64, records: &mut [u64]) -> Answer
+    ensures answer { λ r. ⌜ outcomeNumber (r .outcome) ≡ answerOf (now (rows .entry)) cursor (segment n (now (records .entry))) .number ⌝ }
+    ensures cursor { λ r. ⌜ r .cursor ≡ answerOf (now (rows .entry)) cursor (segment n (now (records .entry))) .cursor ⌝ }
+    ensures records { λ _. ⌜ now (records .exit) ≡ answerOf (now (rows .entry)) cursor (segment n (now (records .entry))) .buffer ⌝ }
+{
+    answer_call(true, rows, cursor, n, records)
+}
+
+// The padding call: n padding cycles at row next_fetch, also on a live machine. Records and refusals are as above, but 5 is
+// none of them.
 pub fn pad_records(rows: &[u64], cursor: Cursor, n: u64, records: &mut [u64]) -> Answer
     ensures answer { λ r. ⌜ outcomeNumber (r .outcome) ≡ answerOf (now (rows .entry)) cursor (padded n (now (records .entry))) .number ⌝ }
     ensures cursor { λ r. ⌜ r .cursor ≡ answerOf (now (rows .entry)) cursor (padded n (now (records .entry))) .cursor ⌝ }
     ensures records { λ _. ⌜ now (records .exit) ≡ answerOf (now (rows .entry)) cursor (padded n (now (records .entry))) .buffer ⌝ }
 {
-    let outcome = judge(rows, cursor, false, n, records.len());
-    match outcome {
-        Outcome::Refused(_) => Answer {
-            outcome: outcome,
-            cursor: cursor,
-        },
-        Outcome::Accepted => {
-            let after = cycles_of(false, rows, cursor, n as usize, records);
-            Answer {
-                outcome: outcome,
-                cursor: after,
-            }
-        }
-    }
+    answer_call(false, rows, cursor, n, records)
 }
 
 // Demand 3, for every list of calls (specs/Demand3.antt). The function does nothing; its contract is the claim.

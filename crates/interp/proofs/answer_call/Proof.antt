@@ -1,38 +1,35 @@
--- `interp::run_segment` meets its contract. Assumes nothing.
+-- `interp::answer_call` meets its contract. Assumes nothing.
 use mathlib.Core.Path.{refl, ap, sym, _∙_}
-use mathlib.Core.Bool.{true}
 use denote.Ref.{now}
 use lib.ListN.{length}
-use Rattle.interp.specs.Calls.{segment, amount, lent, turn, isSegment, refusalOf, outcomeNumber}
+use Rattle.interp.specs.Calls.{outcomeNumber}
 use Rattle.interp.proofs.Judged.{accepted, refused-answer, accepted-answer}
 use borrow.Author.Needs.{needs}
-use Rattle.interp.proofs.run_segment.Statement.{statement}
-use Rattle.interp.proofs.run_segment.Tie as tie
+use Rattle.interp.proofs.answer_call.Statement.{statement}
+use Rattle.interp.proofs.answer_call.Tie as tie
 
 cycles-of-requires : tie.Need-cycles-of-requires
 cycles-of-requires c κs =
     let a = c .before .before .before .before .before .before .args in
-    accepted (now (a .rows)) (a .cursor) true (a .n) (length (now (a .records))) (sym (c .before .before .before .judge .ensures) ∙ ap outcomeNumber (c .before .enum-told2 .given .1))
+    accepted (now (a .rows)) (a .cursor) (a .live) (a .n) (length (now (a .records))) (sym (c .before .before .before .judge .ensures) ∙ ap outcomeNumber (c .before .enum-told2 .given .1))
 
 returns : tie.Need-returns
-unfolding refusalOf isSegment amount lent
 returns c =
     let a = c .before .before .before .before .before .args in
     let told = c .enum-told .given .1 in
-    let answer = refused-answer (c .enum-told .given .0 .0) (now (a .rows)) (a .cursor) (segment (a .n) (now (a .records))) (ap outcomeNumber (sym told) ∙ c .before .before .judge .ensures) in
+    let answer = refused-answer (c .enum-told .given .0 .0) (a .live) (now (a .rows)) (a .cursor) (a .n) (now (a .records)) (ap outcomeNumber (sym told) ∙ c .before .before .judge .ensures) in
     (rw (told, answer) refl, (rw answer refl, rw answer refl))
 
 returns-2 : tie.Need-returns-2
-unfolding refusalOf isSegment amount lent turn
 returns-2 c =
     let a = c .before .before .before .before .before .before .before .before .before .args in
     let told = c .before .before .before .before .enum-told2 .given .1 in
-    let answer = accepted-answer (now (a .rows)) (a .cursor) (segment (a .n) (now (a .records))) (ap outcomeNumber (sym told) ∙ c .before .before .before .before .before .before .judge .ensures) in
+    let answer = accepted-answer (a .live) (now (a .rows)) (a .cursor) (a .n) (now (a .records)) (ap outcomeNumber (sym told) ∙ c .before .before .before .before .before .before .judge .ensures) in
     let done = c .before .before .cycles-of .ensures in
     (rw (told, answer) refl, (rw answer (done .0), rw answer (done .1)))
 
-pub run-segment-spec : {M : Type 1} → statement M
-run-segment-spec =
+pub answer-call-spec : {M : Type 1} → statement M
+answer-call-spec =
     tie.close
     (tie.spec
     (λ c κs. search needs)
