@@ -160,54 +160,54 @@ pub struct Answer {
 }
 
 // The register cell that a cycle writes.
-pub struct Write {
-    pub rd: usize,
-    pub rd_val: u64,
-    pub rd_old: u64,
+struct Write {
+    rd: usize,
+    rd_val: u64,
+    rd_old: u64,
 }
 
 // The RAM word that a cycle shows, and what it stores there.
-pub struct Access {
-    pub ram_addr: usize,
-    pub ram_old: u64,
-    pub ram_new: u64,
-    pub store_src: u64,
-    pub byte_offset: u8,
-    pub store_width: u8,
+struct Access {
+    ram_addr: usize,
+    ram_old: u64,
+    ram_new: u64,
+    store_src: u64,
+    byte_offset: u8,
+    store_width: u8,
 }
 
 // What a cycle only shows.
-pub struct Shown {
-    pub alu_a: u64,
-    pub alu_b: u64,
-    pub alu_out: u64,
-    pub shift_out: u64,
-    pub flags: u64,
+struct Shown {
+    alu_a: u64,
+    alu_b: u64,
+    alu_out: u64,
+    shift_out: u64,
+    flags: u64,
 }
 
 // The accumulator of the shift stages after a cycle.
-pub enum Scratch {
+enum Scratch {
     Kept,
     Holds(u64),
 }
 
 // What an arm says that its row does.
-pub struct Effect {
-    pub write: Write,
-    pub access: Access,
-    pub shown: Shown,
-    pub scratch: Scratch,
-    pub next_pc: usize,
-    pub halts: bool,
+struct Effect {
+    write: Write,
+    access: Access,
+    shown: Shown,
+    scratch: Scratch,
+    next_pc: usize,
+    halts: bool,
 }
 
 // The numbers of a cursor. The loops take them by value and the arrays lent, so that no cycle copies a cursor.
-pub struct Core {
-    pub micro_pc: MicroPc,
-    pub cycles: u64,
-    pub halted: bool,
-    pub output: u64,
-    pub next_fetch: MicroPc,
+struct Core {
+    micro_pc: MicroPc,
+    cycles: u64,
+    halted: bool,
+    output: u64,
+    next_fetch: MicroPc,
 }
 
 // ---- the parts of an effect
