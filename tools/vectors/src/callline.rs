@@ -13,6 +13,7 @@ use crate::calllist::{Call, CallKind, CallList, MOST_INPUT, MOST_ROOM, MOST_ROWS
 use crate::list::{fed_lines, ListKind};
 use magnetar_source::expand::{expand_program, ExpandedProgram};
 use magnetar_source::interp::{pad_records, CycleRecord, StreamCursor};
+use records::pack;
 use std::str;
 
 /// The lists of lists of calls.
@@ -52,7 +53,7 @@ fn answer(call: &Call, program: &ExpandedProgram, cursor: &mut StreamCursor) -> 
         0 => run(call, program, cursor),
         _ => Vec::new(),
     };
-    let records = records.iter().map(|record| line('r', &words(record)));
+    let records = records.iter().map(|record| line('r', &pack(record)));
     line(letter(call.kind), &[call.length, call.room, code])
         + &records.collect::<String>()
         + &line('c', &fields(cursor))
@@ -81,49 +82,6 @@ fn letter(kind: CallKind) -> char {
         CallKind::Segment => 's',
         CallKind::Padding => 'p',
     }
-}
-
-/// The words of a record in the order of 01.
-fn words(record: &CycleRecord) -> [u64; 17] {
-    [
-        record.micro_pc as u64,
-        record.rs1_val,
-        record.rs2_val,
-        record.rd_val,
-        record.rd_old,
-        record.rd as u64,
-        record.ram_addr as u64,
-        record.ram_word,
-        record.ram_old,
-        record.ram_new,
-        record.store_src,
-        record.next_pc as u64,
-        record.alu_a,
-        record.alu_b,
-        record.alu_out,
-        record.shift_out,
-        u64::from(record.byte_offset) | u64::from(record.store_width) << 8 | flags(record) << 16,
-    ]
-}
-
-/// The flags of a record, the first in bit 0.
-fn flags(record: &CycleRecord) -> u64 {
-    let flags = [
-        record.we,
-        record.branch_taken,
-        record.is_arith,
-        record.is_logic,
-        record.is_sub_op,
-        record.is_shift,
-        record.is_load,
-        record.is_store,
-        record.ld_byte,
-        record.ld_half,
-        record.ld_word,
-        record.halted_latch,
-    ];
-    let bits = (0..).zip(flags).map(|(bit, flag)| u64::from(flag) << bit);
-    bits.sum()
 }
 
 fn fields(cursor: &StreamCursor) -> [u64; 5] {

@@ -4,6 +4,7 @@ use super::row_word;
 use crate::{Cursor, Image, RECORD_WORDS};
 use magnetar_source::expand::{expand_program, ExpandedProgram};
 use magnetar_source::interp::{pad_records, CycleRecord, ExecState, StreamCursor};
+pub use records::pack;
 
 const MOST_CYCLES: u128 = 1 << 62;
 
@@ -125,50 +126,6 @@ pub fn image_of(cursor: &StreamCursor) -> Image {
     image
 }
 
-/// The 17 words of a record. Inline, because the benchmark times it.
-#[inline]
-pub fn pack(record: &CycleRecord) -> [u64; RECORD_WORDS] {
-    [
-        record.micro_pc as u64,
-        record.rs1_val,
-        record.rs2_val,
-        record.rd_val,
-        record.rd_old,
-        record.rd as u64,
-        record.ram_addr as u64,
-        record.ram_word,
-        record.ram_old,
-        record.ram_new,
-        record.store_src,
-        record.next_pc as u64,
-        record.alu_a,
-        record.alu_b,
-        record.alu_out,
-        record.shift_out,
-        u64::from(record.byte_offset) | u64::from(record.store_width) << 8 | flags(record) << 16,
-    ]
-}
-
-#[inline]
-fn flags(record: &CycleRecord) -> u64 {
-    let flags = [
-        record.we,
-        record.branch_taken,
-        record.is_arith,
-        record.is_logic,
-        record.is_sub_op,
-        record.is_shift,
-        record.is_load,
-        record.is_store,
-        record.ld_byte,
-        record.ld_half,
-        record.ld_word,
-        record.halted_latch,
-    ];
-    let bits = flags.iter().zip(0..);
-    bits.fold(0, |word, (&flag, bit)| word | u64::from(flag) << bit)
-}
-
 #[cfg(test)]
 mod tests {
     use super::super::{program, register_shift, Rng, ADDI, SLL};
@@ -203,35 +160,6 @@ mod tests {
         let latch = [0, 0, 0, 0, 3, 10, 0, 0, 0, 0, 0, 0, 0, 0, 0, 0, 134217728];
         assert_eq!(records, latch);
         assert_eq!(image, [0; Cursor::WORDS]);
-    }
-
-    /// In the order of the specification.
-    const FLAGS: [fn(&mut CycleRecord) -> &mut bool; 12] = [
-        |record| &mut record.we,
-        |record| &mut record.branch_taken,
-        |record| &mut record.is_arith,
-        |record| &mut record.is_logic,
-        |record| &mut record.is_sub_op,
-        |record| &mut record.is_shift,
-        |record| &mut record.is_load,
-        |record| &mut record.is_store,
-        |record| &mut record.ld_byte,
-        |record| &mut record.ld_half,
-        |record| &mut record.ld_word,
-        |record| &mut record.halted_latch,
-    ];
-
-    #[test]
-    fn every_flag_has_its_own_bit() {
-        for (number, flag) in FLAGS.into_iter().enumerate() {
-            let mut record = CycleRecord {
-                byte_offset: 7,
-                store_width: 8,
-                ..Default::default()
-            };
-            *flag(&mut record) = true;
-            assert_eq!(pack(&record)[16], 0x0807 | 0x1_0000 << number);
-        }
     }
 
     #[test]
