@@ -245,13 +245,25 @@ fn take_first(text: &[u8], have: usize) -> Taken
     no_line(Next::Cut)
 }
 
+// What is unread of a text; nothing, where the bounds lie outside of it.
+fn within(unread: Unread) -> Unread
+    ensures { λ r. ⌜ (r .at ≤ r .end) × (r .end ≤ 65536) ⌝ }
+{
+    if unread.end <= 65536 {
+        if unread.at <= unread.end {
+            return unread;
+        }
+    }
+    Unread::none()
+}
+
 // Takes the next line of a file.
 pub fn take_line(fd: i32, text: &mut Text, unread: Unread) -> Taken
-    requires { ⌜ (unread .at ≤ unread .end) × (unread .end ≤ 65536) ⌝ }
     ensures { λ r. ⌜ (r .unread .at ≤ r .unread .end) × (r .unread .end ≤ 65536) ⌝ }
 {
-    let at = unread.at;
-    let end = unread.end;
+    let inside = within(unread);
+    let at = inside.at;
+    let end = inside.end;
     let stop = line_end(text, at, end);
     if stop < end {
         return line_taken(text, at, stop, end);

@@ -9,6 +9,7 @@ use native.Mathlib.Omega.{arith}
 use lib.ListN.{length, getD, set, drop}
 use lib.Dec.{eqb}
 use Rattle.values.specs.Values.{registerForm, alternate, branchTaken}
+use Rattle.values.proofs.Targets.{target-lt}
 use Rattle.values.proofs.Widths.{width-at-most}
 use Rattle.expand.specs.Rows.{rowOf}
 use Rattle.expand.specs.declared.RomRow.{RomRow}
@@ -93,7 +94,7 @@ module _ (row : RomRow) (mp count : ℕ) (regs : List ℕ) (small : row .rd < 32
   next-lt = mod-lt (suc mp) some-row
 
   jump-lt : (a : ℕ) → jumpTarget row mp count a < count
-  jump-lt a = cond-lt (eqb (row .raw % 0x80) 0x67) (mod-lt _ some-row) (mod-lt _ some-row)
+  jump-lt a = cond-lt (eqb (row .raw % 0x80) 0x67) (target-lt _ count some-row) (target-lt _ count some-row)
 
   alu-lawful : Lawful count (aluArm row (suc mp % count) regs)
   unfolding aluArm
@@ -127,7 +128,7 @@ module _ (row : RomRow) (mp count : ℕ) (regs : List ℕ) (small : row .rd < 32
   unfolding branchArm
   branch-lawful =
       let taken = branchTaken (row .funct3) (cell regs (row .rs1)) (cell regs (row .rs2)) in
-      no-access (omega arith) (branch-flags-lt taken) (cond-lt taken (mod-lt _ some-row) next-lt)
+      no-access (omega arith) (branch-flags-lt taken) (cond-lt taken (target-lt _ count some-row) next-lt)
 
   upper-lawful : Lawful count (upperArm row mp (suc mp % count) regs)
   unfolding upperArm

@@ -461,7 +461,6 @@ fn branch_flags(taken: bool) -> u64
 }
 
 fn branch_next(taken: bool, mp: usize, imm: u64, count: usize, next: usize) -> usize
-    requires { ⌜ (mp < count) × (count ≤ 6291456) ⌝ }
     ensures { λ r. ⌜ r ≡ cond taken (branchTarget mp imm count) next ⌝ }
 {
     if taken {
@@ -472,7 +471,7 @@ fn branch_next(taken: bool, mp: usize, imm: u64, count: usize, next: usize) -> u
 }
 
 fn branch_arm(row: RomRow, mp: usize, count: usize, next: usize, regs: &[u64; 64]) -> Effect
-    requires { ⌜ InRange row × ((mp < count) × (count ≤ 6291456)) ⌝ }
+    requires { ⌜ InRange row ⌝ }
     ensures { λ r. ⌜ r ≡ branchArm row mp count next (now (regs .entry)) ⌝ }
 {
     let rs1 = row.rs1;
@@ -487,7 +486,7 @@ fn branch_arm(row: RomRow, mp: usize, count: usize, next: usize, regs: &[u64; 64
 }
 
 fn upper_arm(row: RomRow, mp: usize, next: usize, regs: &[u64; 64]) -> Effect
-    requires { ⌜ InRange row × (mp < 6291456) ⌝ }
+    requires { ⌜ InRange row ⌝ }
     ensures { λ r. ⌜ r ≡ upperArm row mp next (now (regs .entry)) ⌝ }
 {
     let rs1 = row.rs1;
@@ -500,7 +499,6 @@ fn upper_arm(row: RomRow, mp: usize, next: usize, regs: &[u64; 64]) -> Effect
 }
 
 fn jump_target(row: RomRow, mp: usize, count: usize, a: u64) -> usize
-    requires { ⌜ (mp < count) × (count ≤ 6291456) ⌝ }
     ensures { λ r. ⌜ r ≡ jumpTarget row mp count a ⌝ }
 {
     if row.raw & 0x7f == 0x67 {
@@ -512,7 +510,7 @@ fn jump_target(row: RomRow, mp: usize, count: usize, a: u64) -> usize
 
 // The source writes the link before it looks at the old content: the rd_old of a jump is its link.
 fn jump_arm(row: RomRow, mp: usize, count: usize, regs: &[u64; 64]) -> Effect
-    requires { ⌜ InRange row × ((mp < count) × (count ≤ 6291456)) ⌝ }
+    requires { ⌜ InRange row ⌝ }
     ensures { λ r. ⌜ r ≡ jumpArm row mp count (now (regs .entry)) ⌝ }
 {
     let rs1 = row.rs1;

@@ -138,16 +138,20 @@ branchTaken funct3 a b =
 
 -- mp and a quarter of the signed imm, taken towards zero; a negative sum is 0
 unfoldable pub quarterOn : ℕ → ℕ → ℕ
-quarterOn mp imm = cond (ltb imm (2 ^ 63)) (mp + imm / 4) (mp - (2 ^ 64 - imm) / 4)
+quarterOn mp imm = cond (ltb imm (2 ^ 63)) (plus mp (imm / 4)) (mp - (2 ^ 64 - imm) / 4)
+
+-- the source's prog_len: the rows, and 1 where there are none
+unfoldable pub rowCount : ℕ → ℕ
+rowCount rows = cond (eqb rows 0) 1 rows
 
 -- of a branch and of JAL
 abbrev pub branchTarget : ℕ → ℕ → ℕ → ℕ
-branchTarget mp imm rows = quarterOn mp imm % rows
+branchTarget mp imm rows = quarterOn mp imm % rowCount rows
 
 -- of JALR
 abbrev pub jalrTarget : ℕ → ℕ → ℕ → ℕ
-jalrTarget a imm rows = plus a imm / 4 % rows
+jalrTarget a imm rows = plus a imm / 4 % rowCount rows
 
 -- what a jump writes
 abbrev pub linkValue : ℕ → ℕ
-linkValue mp = mp * 4 + 4
+linkValue mp = plus (mp * 4) 4

@@ -1,8 +1,8 @@
 // The values that the arms of magnetar-cpu's interp.rs compute, on u64 words. No machine is in it: registers, RAM and
 // rows are the interpreter's.
 ghost use mathlib.Core.Path.{_≡_};
-ghost use Prim.Native.Nat.{_-_, _*_, _%_, _^_, _≤_, _<_};
-ghost use Rattle.values.specs.Values.{plus, minus, left, right, signedRight, less, flag, secondOperand, shift, sum, aluValue, upperValue, amount, stageValue, wordOf, offsetOf, byte, half, loadValue, storeWidth, storeValue, branchTaken, quarterOn, branchTarget, jalrTarget, linkValue};
+ghost use Prim.Native.Nat.{_-_, _*_, _%_, _^_};
+ghost use Rattle.values.specs.Values.{plus, minus, left, right, signedRight, less, flag, secondOperand, shift, sum, aluValue, upperValue, amount, stageValue, wordOf, offsetOf, byte, half, loadValue, storeWidth, storeValue, branchTaken, quarterOn, rowCount, branchTarget, jalrTarget, linkValue};
 ghost use Rattle.values.specs.Claims.{Signed};
 
 // The contract of std's function gives a from the answer; this one gives the answer.
@@ -101,11 +101,10 @@ pub fn alu_value(funct3: u32, raw: u32, a: u64, b: u64) -> u64
 
 // What LUI and AUIPC write.
 pub fn upper_value(raw: u32, imm: u64, mp: usize) -> u64
-    requires { ⌜ mp < 2 ^ 61 ⌝ }
     ensures { λ r. ⌜ r ≡ upperValue raw imm mp ⌝ }
 {
     if raw & 0x7f == 0x17 {
-        std::num::wrapping_add_u64(imm, mp as u64 * 4)
+        std::num::wrapping_add_u64(imm, (mp as u64) << 2)
     } else {
         imm
     }
@@ -224,40 +223,44 @@ pub fn branch_taken(funct3: u32, a: u64, b: u64) -> bool
 
 // The source divides an i64, which rounds towards zero, and takes the larger of the sum and 0.
 fn quarter_on(mp: usize, imm: u64) -> usize
-    requires { ⌜ mp < 2 ^ 61 ⌝ }
     ensures { λ r. ⌜ r ≡ quarterOn mp imm ⌝ }
 {
     if imm < 0x8000_0000_0000_0000 {
-        mp + (imm / 4) as usize
+        std::num::wrapping_add_u64(mp as u64, imm / 4) as usize
     } else {
         let down = ((u64::MAX - imm + 1) / 4) as usize;
         if down <= mp { mp - down } else { 0 }
     }
 }
 
+// The source's prog_len, by which a target is never divided by 0.
+fn row_count(rows: usize) -> usize
+    ensures { λ r. ⌜ r ≡ rowCount rows ⌝ }
+{
+    if rows == 0 { 1 } else { rows }
+}
+
 // The row that a branch or JAL at row mp goes to.
 pub fn branch_target(mp: usize, imm: u64, rows: usize) -> usize
-    requires { ⌜ mp < rows ⌝ }
-    requires { ⌜ rows ≤ 2 ^ 61 ⌝ }
     ensures { λ r. ⌜ r ≡ branchTarget mp imm rows ⌝ }
 {
-    quarter_on(mp, imm) % rows
+    let to = quarter_on(mp, imm);
+    to % row_count(rows)
 }
 
 // The row that JALR goes to.
 pub fn jalr_target(a: u64, imm: u64, rows: usize) -> usize
-    requires { ⌜ 0 < rows ⌝ }
     ensures { λ r. ⌜ r ≡ jalrTarget a imm rows ⌝ }
 {
-    (std::num::wrapping_add_u64(a, imm) / 4) as usize % rows
+    let to = std::num::wrapping_add_u64(a, imm) / 4;
+    to as usize % row_count(rows)
 }
 
 // What a jump at row mp writes.
 pub fn link_value(mp: usize) -> u64
-    requires { ⌜ mp < 2 ^ 61 ⌝ }
     ensures { λ r. ⌜ r ≡ linkValue mp ⌝ }
 {
-    mp as u64 * 4 + 4
+    std::num::wrapping_add_u64((mp as u64) << 2, 4)
 }
 
 // The forms that read a word as a signed number, and the six stages as one shift (specs/Claims.antt).
