@@ -4,6 +4,8 @@ pub mod Runs
 pub mod Latest
 pub mod Demand3
 pub mod Lists
+pub mod Powers
 pub mod Judged
 pub mod Loops
 pub mod Halting
+pub mod Executing

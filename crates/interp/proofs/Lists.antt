@@ -5,8 +5,8 @@ use mathlib.Core.Logic.{_⊎_, inl, inr}
 use Prim.Native.Nat.{ℕ, suc, _+_, _-_, _≤_, _<_}
 use native.Mathlib.Nat.{zero-add}
 use native.Mathlib.Omega.{arith}
-use lib.ListN.{length, take, drop, getD, set, replicate, length-append, length-replicate, replicate-append-replicate, drop-of-length-le}
-use lib.Seq.{sets, sets-eq, take-at, drop-at, take-all, take-append-le, take-append-add, paste, paste-suc}
+use lib.ListN.{length, take, drop, getD, set, replicate, length-append, length-drop, length-replicate, replicate-append-replicate, drop-of-length-le}
+use lib.Seq.{sets, sets-eq, take-at, drop-at, drop-drop, take-all, take-append-le, take-append-add, paste, paste-suc}
 
 -- as many stores from 0 as the list is long leave what was stored
 pub filled : (vs l : List ℕ) → length l ≡ length vs → sets l 0 vs ≡ vs
@@ -51,15 +51,17 @@ padded s n i hn hs (inr h) =
     ∙ sym (take-append-add s (zeros n) m)
     ∙ ap (λ (k : ℕ). take k (s ++ zeros n)) e
 
--- the rest of a list after its first a elements, lent, and back as w
-module _ (p r : List ℕ) (a : ℕ) (h : length p ≡ a) where
-  rest-length : length (p ++ r) - a ≡ length r
-  rest-length = omega (arith, length-append p r)
+-- the rest of a list after its first a elements, lent, and back as p and what stood behind
+module _ (l : List ℕ) (a : ℕ) where
+  rest-lent : take (length l - a) (drop a l) ≡ drop a l
+  rest-lent = take-all (length l - a) (drop a l) (omega (arith, length-drop a l))
 
-  pub rest-lent : take (length (p ++ r) - a) (drop a (p ++ r)) ≡ r
-  rest-lent = rw (rest-length, drop-at p r a h) (take-all (length r) r (omega arith))
-
-  pub rest-back : (w : List ℕ) → take a (p ++ r) ++ (w ++ drop (length (p ++ r) - a) (drop a (p ++ r))) ≡ p ++ w
-  rest-back w =
-      rw (rest-length, take-at p r a h, drop-at p r a h, drop-of-length-le r {i = length r} (omega arith))
-      (ap (λ (l : List ℕ). p ++ l) (append-nil w))
+  pub rest-back : (p : List ℕ) (m : ℕ) (w : List ℕ) → w ≡ p ++ drop m (take (length l - a) (drop a l))
+      → take a l ++ (w ++ drop (length l - a) (drop a l)) ≡ take a l ++ (p ++ drop (a + m) l)
+  rest-back p m w e =
+      ap (λ (k : List ℕ). take a l ++ k)
+      (ap (λ (k : List ℕ). w ++ k) (drop-of-length-le (drop a l) {i = length l - a} (omega (arith, length-drop a l)))
+      ∙ append-nil w
+      ∙ e
+      ∙ ap (λ (k : List ℕ). p ++ drop m k) rest-lent
+      ∙ ap (λ (k : List ℕ). p ++ k) (drop-drop m a l))

@@ -53,16 +53,25 @@ unfoldable pub isSegment : Call → Bool
 isSegment (segment n buffer) = true
 isSegment (padded n buffer) = false
 
--- the table of refusals, lowest number first, for a call of n cycles with so many words of room; only a segment call meets 5
-abbrev pub refusals : List ℕ → Cursor → Bool → ℕ → ℕ → List Line
-refusals rows c live n room =
+-- the lines of the table of refusals that rows meet, in every call
+abbrev pub rowLines : List ℕ → List Line
+rowLines rows =
     line 1 (eqb (length rows) 0)
     ∷ line 2 (ltb 6291456 (length rows))
     ∷ line 3 (not (isExpansion rows))
-    ∷ line 4 (not (ltb (c .«micro_pc» .0) (length rows) && ltb (c .«next_fetch» .0) (length rows)))
+    ∷ []
+
+-- the lines that a call of n cycles meets, with so many rows and so many words of room; only a segment call meets 5
+abbrev pub callLines : ℕ → Cursor → Bool → ℕ → ℕ → List Line
+callLines count c live n room =
+    line 4 (not (ltb (c .«micro_pc» .0) count && ltb (c .«next_fetch» .0) count))
     ∷ line 5 (live && ltb (2 ^ 62) (c .cycles + n))
     ∷ line 6 (ltb room (17 * n))
     ∷ []
+
+-- the table of refusals of a call, lowest number first
+abbrev pub refusals : List ℕ → Cursor → Bool → ℕ → ℕ → List Line
+refusals rows c live n room = rowLines rows ++ callLines (length rows) c live n room
 
 -- the number that a call returns: 0 is accepted
 unfoldable pub refusalOf : List ℕ → Cursor → Call → ℕ

@@ -46,12 +46,11 @@ coreOf c =
       «next_fetch» = c .«next_fetch»;
     }
 
--- what an accepted call of n cycles has, with so many rows and so many words of room; only a segment call counts cycles
-pub record Ready (count : ℕ) (k : Core) (live : Bool) (n room : ℕ) : Type 0 where
+-- what up to n live cycles need, with so many rows and so many words of room
+pub record Ready (count : ℕ) (k : Core) (n room : ℕ) : Type 0 where
   pub pc : k .«micro_pc» .0 < count
   pub fetch : k .«next_fetch» .0 < count
-  pub few-rows : count ≤ 6291456
-  pub few-cycles : cond live (k .cycles + n) 0 ≤ 2 ^ 62
+  pub few-cycles : 0 < n → k .cycles + n ≤ 2 ^ 62
   pub fits : 17 * n ≤ room
 
 -- the cycle of a call: of a segment call if live, else of a padding call

@@ -1,17 +1,19 @@
 // The interpreter, a port of magnetar-cpu's interp.rs: it runs the rows of an expanded program and writes one record of 17
 // words for each cycle into a lent buffer. A cycle is an arm, which says what its row does, and then `commit`, which does it.
 ghost use mathlib.Core.Path.{_≡_};
-ghost use Prim.Native.Nat.{suc, _+_, _*_, _%_, _^_, _≤_, _<_};
+ghost use Prim.Native.Nat.{suc, _+_, _-_, _*_, _%_, _^_, _≤_, _<_};
 ghost use mathlib.Core.Bool.{true, not, cond, _&&_};
 ghost use mathlib.Core.List.{_++_};
 ghost use lib.Dec.{eqb, ltb};
-ghost use lib.ListN.{length, drop};
+ghost use lib.ListN.{length, take, drop};
 ghost use Rattle.expand.specs.Expand.{lowest};
 ghost use Rattle.values.specs.Values.{branchTarget};
-ghost use Rattle.interp.specs.Machine.{startOf, words, flat};
+ghost use Rattle.interp.specs.Machine.{rowAt, startOf, words, flat};
 ghost use Rattle.interp.specs.Cycle.{redirect, writes, keeps, noAccess, shows, effect, subFlag, aluFlags, shiftOut, aluArm, stageEffect, stageArm, loadFlag, loadFlags, loadArm, storeArm, branchFlags, branchArm, upperArm, jumpTarget, jumpArm, systemArm, paddingArm, recordOf, scratched, regsAfter, ramAfter, commit, stepAt, frozenAt};
-ghost use Rattle.interp.specs.Calls.{recorded, end, segment, padded, refusals, answerOf, numberOf, outcomeNumber};
+ghost use Rattle.interp.specs.Calls.{recorded, end, segment, padded, rowLines, callLines, refusals, answerOf, numberOf, outcomeNumber};
+ghost use Rattle.interp.specs.Execute.{liveCount, stoppedAt, liveRecords, nextPowerOfTwo, lengthLines, executeRefusals, executed, executeOf, ExecuteLaws};
 ghost use Rattle.interp.specs.Code.{InRange, Sound, whole, coreOf, stepOf, callOf, Ready};
+ghost use Rattle.interp.specs.declared.Outcome.the-variants.{Accepted};
 ghost use Rattle.interp.specs.Demand3.{Demand3};
 use expand::MicroPc;
 use expand::RomRow;
@@ -22,6 +24,9 @@ pub const MAX_ROWS: usize = 6291456;
 
 // The most cycles of a machine.
 pub const MAX_CYCLES: u64 = 0x4000_0000_0000_0000;
+
+// The most cycles of execute.
+pub const MAX_EXECUTED: u64 = 0x1_0000_0000;
 
 // The words of a record.
 pub const RECORD_WORDS: usize = 17;
@@ -159,6 +164,14 @@ pub struct Answer {
     pub cursor: Cursor,
 }
 
+// The answer of execute: how many cycles were live, how many records there are, and the cursor after padding.
+pub struct Execution {
+    pub outcome: Outcome,
+    pub live_count: u64,
+    pub record_count: u64,
+    pub cursor: Cursor,
+}
+
 // The register cell that a cycle writes.
 struct Write {
     rd: usize,
@@ -208,6 +221,13 @@ struct Core {
     halted: bool,
     output: u64,
     next_fetch: MicroPc,
+}
+
+// Where the live cycles of a call ended: the numbers of the cursor, how many live cycles there were, and the row at next_fetch.
+struct Stopped {
+    core: Core,
+    count: usize,
+    row: RomRow,
 }
 
 // ---- the parts of an effect
@@ -720,7 +740,7 @@ fn live_cycle(
     ram: &mut [u64; 256],
     out: &mut [u64],
 ) -> Core
-    requires { ⌜ InRange row × ((core .cycles < 2 ^ 62) × ((core .«micro_pc» .0 < count) × ((count ≤ 6291456) × (length (now out) ≡ 17)))) ⌝ }
+    requires { ⌜ InRange row × ((core .cycles < 2 ^ 62) × ((core .«micro_pc» .0 < count) × (length (now out) ≡ 17))) ⌝ }
     ensures { λ r. ⌜ whole r (now (regs .exit)) (now (ram .exit)) ≡ stepAt row count (whole core (now (regs .entry)) (now (ram .entry))) .after ⌝ }
     ensures { λ _. ⌜ now (out .exit) ≡ words (stepAt row count (whole core (now (regs .entry)) (now (ram .entry))) .shown) ⌝ }
 {
@@ -794,45 +814,49 @@ fn run_padding(
     }
 }
 
-// Whether the next cycle is a padding cycle: always in a padding call, and in a segment call once the machine has halted.
-fn is_frozen(live: bool, halted: bool) -> bool
-    ensures { λ r. ⌜ r ≡ cond live halted true ⌝ }
+// Whether the live cycles end: the machine has halted, or as many as allowed were taken.
+fn is_over(halted: bool, taken: usize, limit: usize) -> bool
+    ensures { λ r. ⌜ r ≡ cond halted true (eqb taken limit) ⌝ }
 {
-    if live { halted } else { true }
+    if halted { true } else { taken == limit }
 }
 
-fn fetch_row(frozen: bool, fetch: usize, pc: usize) -> usize
-    ensures { λ r. ⌜ r ≡ cond frozen fetch pc ⌝ }
+fn fetch_row(over: bool, fetch: usize, pc: usize) -> usize
+    ensures { λ r. ⌜ r ≡ cond over fetch pc ⌝ }
 {
-    if frozen { fetch } else { pc }
+    if over { fetch } else { pc }
 }
 
-// The n cycles of an accepted call: live ones, then padding. A row is taken apart in one place, so that the compiler can join
-// that with the match of the live cycle; once the machine is frozen its row stays, and `run_padding` does the rest.
-fn run(
-    live: bool,
+// Live cycles until the machine halts, at most `limit`; they are counted. A row is taken apart in one place, so that the
+// compiler can join that with the match of the live cycle: where the live cycles end, that is the row at which padding stays.
+fn run_live(
     rows: &[u64],
     start: Core,
-    n: usize,
+    limit: usize,
     regs: &mut [u64; 64],
     ram: &mut [u64; 256],
     records: &mut [u64],
-) -> Core
-    requires { ⌜ Ready (length (now rows)) start live n (length (now records)) ⌝ }
-    ensures { λ r. ⌜ whole r (now (regs .exit)) (now (ram .exit)) ≡ end (stepOf live (now (rows .entry))) n (whole start (now (regs .entry)) (now (ram .entry))) ⌝ }
-    ensures { λ _. ⌜ now (records .exit) ≡ flat (recorded (stepOf live (now (rows .entry))) n (whole start (now (regs .entry)) (now (ram .entry)))) ++ drop (17 * n) (now (records .entry)) ⌝ }
+) -> Stopped
+    requires { ⌜ Ready (length (now rows)) start limit (length (now records)) ⌝ }
+    ensures { λ r. ⌜ r .count ≡ liveCount (now (rows .entry)) limit (whole start (now (regs .entry)) (now (ram .entry))) ⌝ }
+    ensures { λ r. ⌜ r .row ≡ rowAt (now (rows .entry)) (r .core .«next_fetch» .0) ⌝ }
+    ensures { λ r. ⌜ whole (r .core) (now (regs .exit)) (now (ram .exit)) ≡ stoppedAt (now (rows .entry)) limit (whole start (now (regs .entry)) (now (ram .entry))) ⌝ }
+    ensures { λ r. ⌜ now (records .exit) ≡ flat (liveRecords (now (rows .entry)) limit (whole start (now (regs .entry)) (now (ram .entry)))) ++ drop (17 * r .count) (now (records .entry)) ⌝ }
 {
     let mut core = afresh(start);
     let mut i: usize = 0;
-    while i < n {
-        let frozen = is_frozen(live, core.halted);
-        let at = fetch_row(frozen, core.next_fetch.0, core.micro_pc.0);
+    loop {
+        let over = is_over(core.halted, i, limit);
+        let at = fetch_row(over, core.next_fetch.0, core.micro_pc.0);
         let row = expand::rom_row(rows[at]);
-        let base = RECORD_WORDS * i;
-        if frozen {
-            run_padding(row, core, n - i, regs, ram, &mut records[base..]);
-            return core;
+        if over {
+            return Stopped {
+                core: core,
+                count: i,
+                row: row,
+            };
         }
+        let base = RECORD_WORDS * i;
         let next = live_cycle(
             row,
             rows.len(),
@@ -844,7 +868,31 @@ fn run(
         core = afresh(next);
         i += 1;
     }
-    core
+}
+
+// Padding cycles behind the live ones, up to `due` records.
+fn pad_rest(
+    stopped: Stopped,
+    due: usize,
+    regs: &mut [u64; 64],
+    ram: &mut [u64; 256],
+    records: &mut [u64],
+)
+    requires { ⌜ InRange (stopped .row) × ((stopped .count ≤ due) × (17 * due ≤ length (now records))) ⌝ }
+    ensures { λ _. ⌜ whole (stopped .core) (now (regs .exit)) (now (ram .exit)) ≡ end (frozenAt (stopped .row)) (due - stopped .count) (whole (stopped .core) (now (regs .entry)) (now (ram .entry))) ⌝ }
+    ensures { λ _. ⌜ now (records .exit) ≡ take (17 * stopped .count) (now (records .entry)) ++ (flat (recorded (frozenAt (stopped .row)) (due - stopped .count) (whole (stopped .core) (now (regs .entry)) (now (ram .entry)))) ++ drop (17 * due) (now (records .entry))) ⌝ }
+{
+    let row = stopped.row;
+    let core = stopped.core;
+    let base = RECORD_WORDS * stopped.count;
+    run_padding(
+        row,
+        core,
+        due - stopped.count,
+        regs,
+        ram,
+        &mut records[base..],
+    );
 }
 
 // ---- the calls
@@ -888,16 +936,26 @@ fn whole_of(k: Core, regs: [u64; 64], ram: [u64; 256]) -> Cursor
     }
 }
 
-// The cycles of an accepted call. The arrays are copied out of the cursor once and lent to each cycle.
+// The most live cycles of a call of n cycles: a padding call has none.
+fn live_limit(live: bool, n: usize) -> usize
+    ensures { λ r. ⌜ r ≡ cond live n 0 ⌝ }
+{
+    if live { n } else { 0 }
+}
+
+// The n cycles of an accepted call. The arrays are copied out of the cursor once and lent to each cycle.
 fn cycles_of(live: bool, rows: &[u64], cursor: Cursor, n: usize, records: &mut [u64]) -> Cursor
-    requires { ⌜ Ready (length (now rows)) (coreOf cursor) live n (length (now records)) ⌝ }
+    requires { ⌜ Ready (length (now rows)) (coreOf cursor) (cond live n 0) (length (now records)) × (17 * n ≤ length (now records)) ⌝ }
     ensures { λ r. ⌜ r ≡ end (stepOf live (now (rows .entry))) n cursor ⌝ }
     ensures { λ _. ⌜ now (records .exit) ≡ flat (recorded (stepOf live (now (rows .entry))) n cursor) ++ drop (17 * n) (now (records .entry)) ⌝ }
 {
     let mut regs = cursor.regs;
     let mut ram = cursor.ram;
     let start = core_of(cursor);
-    let core = run(live, rows, start, n, &mut regs, &mut ram, records);
+    let limit = live_limit(live, n);
+    let stopped = run_live(rows, start, limit, &mut regs, &mut ram, records);
+    pad_rest(stopped, n, &mut regs, &mut ram, records);
+    let core = stopped.core;
     whole_of(core, regs, ram)
 }
 
@@ -928,9 +986,9 @@ fn is_short(room: usize, n: u64) -> bool
     ((room / RECORD_WORDS) as u64) < n
 }
 
-// Whether a call of n cycles is accepted: the refusals of document 01's table, lowest number first.
-fn judge(rows: &[u64], c: Cursor, live: bool, n: u64, room: usize) -> Outcome
-    ensures { λ r. ⌜ outcomeNumber r ≡ lowest (refusals (now (rows .entry)) c live n room) ⌝ }
+// The refusals that rows meet in every call.
+fn judge_rows(rows: &[u64]) -> Outcome
+    ensures { λ r. ⌜ outcomeNumber r ≡ lowest (rowLines (now (rows .entry))) ⌝ }
 {
     if rows.len() == 0 {
         return Outcome::Refused(Refusal::NoRows);
@@ -941,7 +999,14 @@ fn judge(rows: &[u64], c: Cursor, live: bool, n: u64, room: usize) -> Outcome
     if !expand::is_expansion(rows) {
         return Outcome::Refused(Refusal::NoExpansion);
     }
-    if is_outside(c.micro_pc.0, c.next_fetch.0, rows.len()) {
+    Outcome::Accepted
+}
+
+// The refusals of a segment call, if `live`, or a padding call that its rows do not meet.
+fn judge_cycles(count: usize, c: Cursor, live: bool, n: u64, room: usize) -> Outcome
+    ensures { λ r. ⌜ outcomeNumber r ≡ lowest (callLines count c live n room) ⌝ }
+{
+    if is_outside(c.micro_pc.0, c.next_fetch.0, count) {
         return Outcome::Refused(Refusal::OutsideRows);
     }
     if is_too_long(live, c.cycles, n) {
@@ -951,6 +1016,17 @@ fn judge(rows: &[u64], c: Cursor, live: bool, n: u64, room: usize) -> Outcome
         return Outcome::Refused(Refusal::Short);
     }
     Outcome::Accepted
+}
+
+// Whether a call of n cycles is accepted: the refusals of document 01's table, lowest number first.
+fn judge(rows: &[u64], c: Cursor, live: bool, n: u64, room: usize) -> Outcome
+    ensures { λ r. ⌜ outcomeNumber r ≡ lowest (refusals (now (rows .entry)) c live n room) ⌝ }
+{
+    let judged = judge_rows(rows);
+    match judged {
+        Outcome::Refused(_) => judged,
+        Outcome::Accepted => judge_cycles(rows.len(), c, live, n, room),
+    }
 }
 
 // What both calls do: the segment call if `live`, else the padding call.
@@ -994,6 +1070,102 @@ pub fn pad_records(rows: &[u64], cursor: Cursor, n: u64, records: &mut [u64]) ->
 {
     answer_call(false, rows, cursor, n, records)
 }
+
+// ---- execute
+
+// The smallest power of two at least n and 1.
+fn next_power_of_two(n: u64) -> u64
+    requires { ⌜ n ≤ 2 ^ 32 ⌝ }
+    ensures { λ r. ⌜ r ≡ nextPowerOfTwo n ⌝ }
+{
+    let mut p: u64 = 1;
+    while p < n {
+        p = 2 * p;
+    }
+    p
+}
+
+// The refusals of execute that its rows do not meet.
+fn judge_length(max_cycles: u64, room: usize) -> Outcome
+    ensures { λ r. ⌜ outcomeNumber r ≡ lowest (lengthLines «max_cycles» room) ⌝ }
+{
+    if MAX_EXECUTED < max_cycles {
+        return Outcome::Refused(Refusal::TooManyCycles);
+    }
+    if is_short(room, next_power_of_two(max_cycles)) {
+        return Outcome::Refused(Refusal::Short);
+    }
+    Outcome::Accepted
+}
+
+fn judge_execution(rows: &[u64], max_cycles: u64, room: usize) -> Outcome
+    ensures { λ r. ⌜ outcomeNumber r ≡ lowest (executeRefusals (now (rows .entry)) «max_cycles» room) ⌝ }
+{
+    let judged = judge_rows(rows);
+    match judged {
+        Outcome::Refused(_) => judged,
+        Outcome::Accepted => judge_length(max_cycles, room),
+    }
+}
+
+// An accepted execution, from a cursor on: live cycles, counted against max_cycles, and then padding.
+fn execution_of(rows: &[u64], cursor: Cursor, max_cycles: usize, records: &mut [u64]) -> Execution
+    requires { ⌜ Ready (length (now rows)) (coreOf cursor) «max_cycles» (length (now records)) × ((«max_cycles» ≤ 2 ^ 32) × (17 * nextPowerOfTwo «max_cycles» ≤ length (now records))) ⌝ }
+    ensures { λ r. ⌜ r .outcome ≡ Accepted ⌝ }
+    ensures { λ r. ⌜ r .«live_count» ≡ executed (now (rows .entry)) cursor «max_cycles» (now (records .entry)) .live ⌝ }
+    ensures { λ r. ⌜ r .«record_count» ≡ executed (now (rows .entry)) cursor «max_cycles» (now (records .entry)) .count ⌝ }
+    ensures { λ r. ⌜ r .cursor ≡ executed (now (rows .entry)) cursor «max_cycles» (now (records .entry)) .cursor ⌝ }
+    ensures { λ _. ⌜ now (records .exit) ≡ executed (now (rows .entry)) cursor «max_cycles» (now (records .entry)) .buffer ⌝ }
+{
+    let mut regs = cursor.regs;
+    let mut ram = cursor.ram;
+    let start = core_of(cursor);
+    let stopped = run_live(rows, start, max_cycles, &mut regs, &mut ram, records);
+    let due = next_power_of_two(stopped.count as u64);
+    pad_rest(stopped, due as usize, &mut regs, &mut ram, records);
+    let core = stopped.core;
+    let after = whole_of(core, regs, ram);
+    Execution {
+        outcome: Outcome::Accepted,
+        live_count: stopped.count as u64,
+        record_count: due,
+        cursor: after,
+    }
+}
+
+// Execute on a ROM: from the fresh cursor of the input, live cycles until the machine halts, at most max_cycles, and then
+// padding up to a power of two. A refused call leaves `records` as it was and hands back no cursor: the blank one stands
+// in the field.
+pub fn execute(rows: &[u64], input: &[u64], max_cycles: u64, records: &mut [u64]) -> Execution
+    ensures answer { λ r. ⌜ outcomeNumber (r .outcome) ≡ executeOf (now (rows .entry)) (now (input .entry)) «max_cycles» (now (records .entry)) .number ⌝ }
+    ensures live { λ r. ⌜ r .«live_count» ≡ executeOf (now (rows .entry)) (now (input .entry)) «max_cycles» (now (records .entry)) .live ⌝ }
+    ensures count { λ r. ⌜ r .«record_count» ≡ executeOf (now (rows .entry)) (now (input .entry)) «max_cycles» (now (records .entry)) .count ⌝ }
+    ensures cursor { λ r. ⌜ r .cursor ≡ executeOf (now (rows .entry)) (now (input .entry)) «max_cycles» (now (records .entry)) .cursor ⌝ }
+    ensures records { λ _. ⌜ now (records .exit) ≡ executeOf (now (rows .entry)) (now (input .entry)) «max_cycles» (now (records .entry)) .buffer ⌝ }
+{
+    let outcome = judge_execution(rows, max_cycles, records.len());
+    match outcome {
+        Outcome::Refused(_) => {
+            let none = [0u64; 0];
+            let blank = Cursor::start(&none);
+            Execution {
+                outcome: outcome,
+                live_count: 0,
+                record_count: 0,
+                cursor: blank,
+            }
+        }
+        Outcome::Accepted => {
+            let start = Cursor::start(input);
+            execution_of(rows, start, max_cycles as usize, records)
+        }
+    }
+}
+
+// What is claimed of execute (specs/Execute.antt). The function does nothing; its contract is the claim.
+pub fn execute_laws()
+    ensures { λ r. ⌜ ExecuteLaws ⌝ }
+{}
 
 // Demand 3, for every list of calls (specs/Demand3.antt). The function does nothing; its contract is the claim.
 pub fn demand_3()

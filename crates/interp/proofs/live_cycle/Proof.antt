@@ -21,7 +21,7 @@ may-commit : (start : tie.Start) (e : Effect) → e ≡ the-effect start
 may-commit start e h =
     let a = start .args in
     let lawful = arm-lawful (a .row) (a .core .«micro_pc» .0) (a .count) (now (a .regs)) (start .pre .0 .rd) (start .pre .1 .1 .0) (a .row .kind) (now (a .ram)) in
-    (start .pre .0, (rw h (lawful .sound), (start .pre .1 .0, start .pre .1 .1 .1 .1)))
+    (start .pre .0, (rw h (lawful .sound), (start .pre .1 .0, start .pre .1 .1 .1)))
 
 -- what each arm answers is that effect
 alu-is : (c : tie.After-alu-arm) → c .alu-arm .result ≡ the-effect (c .before .before .before .before .before .before)

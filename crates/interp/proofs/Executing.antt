@@ -1,0 +1,158 @@
+-- What is claimed of execute: the live count is the steps taken, and a larger limit changes nothing once the machine has
+-- halted. Assumes nothing.
+use mathlib.Core.Path.{_≡_, refl, ap, sym, _∙_}
+use mathlib.Core.Bool.{Bool, true, false}
+use mathlib.Core.List.{List, [], _++_, append-assoc}
+use Prim.Native.Nat.{ℕ, zero, suc, _+_, _-_, _*_, _^_, _≤_, _<_}
+use native.Mathlib.Nat.{zero-add}
+use native.Mathlib.Omega.{arith}
+use lib.ListN.{length, take, drop, length-append}
+use lib.Seq.{take-at}
+use Rattle.expand.specs.Expand.{lowest}
+use Rattle.interp.specs.declared.Cursor.{Cursor}
+use Rattle.interp.specs.Machine.{startOf, flat}
+use Rattle.interp.specs.Cycle.{commit, stepAt, live, frozenAt, padding}
+use Rattle.interp.specs.Calls.{recorded, end}
+use Rattle.interp.specs.Execute.{liveCount, liveRecords, stoppedAt, nextPowerOfTwo, executeRefusals, executed, answered, executeOf, Steps, SameAnswer, ExecuteLaws}
+use Rattle.interp.proofs.Runs.{length-words}
+use Rattle.interp.proofs.Powers.{smallest}
+use Rattle.interp.proofs.Judged.{accepted-execution, accepted-is}
+use Rattle.interp.proofs.Halting.{count-halted, count-live, count-most}
+
+module _ (rows : List ℕ) where
+  -- ---- the live cycles
+
+  running : (n : ℕ) (c : Cursor) (j : ℕ) → j < liveCount rows n c → end (live rows) j c .halted ≡ false
+  unfolding liveCount end
+  running zero c j h = absurd (omega (arith, h))
+  running (suc n) c j h = go (c .halted) refl j h (running n (live rows c .after))
+    where
+      go : (b : Bool) → c .halted ≡ b → (i : ℕ) → i < liveCount rows (suc n) c
+          → ((k : ℕ) → k < liveCount rows n (live rows c .after) → end (live rows) k (live rows c .after) .halted ≡ false)
+          → end (live rows) i c .halted ≡ false
+      go true e i q rest = absurd (omega (arith, q, count-halted rows (suc n) c e))
+      go false e zero q rest = e
+      go false e (suc i) q rest = rest i (omega (arith, q, count-live rows n c e))
+
+  stopped : (n : ℕ) (c : Cursor) → liveCount rows n c < n → stoppedAt rows n c .halted ≡ true
+  unfolding liveCount end
+  stopped zero c h = absurd (omega (arith, h))
+  stopped (suc n) c h = go (c .halted) refl (stopped n (live rows c .after))
+    where
+      go : (b : Bool) → c .halted ≡ b
+          → (liveCount rows n (live rows c .after) < n → stoppedAt rows n (live rows c .after) .halted ≡ true)
+          → stoppedAt rows (suc n) c .halted ≡ true
+      go true e rest = rw (count-halted rows (suc n) c e) e
+      go false e rest = rw (count-live rows n c e) (rest (omega (arith, h, count-live rows n c e)))
+
+  -- a larger limit finds no more live cycles where the machine has halted
+  same-count : (max more : ℕ) (c : Cursor) → max ≤ more → stoppedAt rows max c .halted ≡ true → liveCount rows more c ≡ liveCount rows max c
+  unfolding liveCount end
+  same-count zero more c le h = count-halted rows more c h
+  same-count (suc max) zero c le h = absurd (omega (arith, le))
+  same-count (suc max) (suc more) c le h = go (c .halted) refl (same-count max more (live rows c .after) (omega (arith, le)))
+    where
+      go : (b : Bool) → c .halted ≡ b
+          → (stoppedAt rows max (live rows c .after) .halted ≡ true → liveCount rows more (live rows c .after) ≡ liveCount rows max (live rows c .after))
+          → liveCount rows (suc more) c ≡ liveCount rows (suc max) c
+      go true e rest = count-halted rows (suc more) c e ∙ sym (count-halted rows (suc max) c e)
+      go false e rest = count-live rows more c e ∙ ap suc (rest (rw (count-live rows max c e) at h)) ∙ sym (count-live rows max c e)
+
+  -- ---- what cycles keep
+
+  live-cycles : (k : ℕ) (c : Cursor) → end (live rows) k c .cycles ≡ c .cycles + k
+  unfolding end live stepAt commit
+  live-cycles zero c = omega arith
+  live-cycles (suc k) c = live-cycles k (live rows c .after) ∙ omega arith
+
+  padding-cycles : (k : ℕ) (c : Cursor) → end (padding rows) k c .cycles ≡ c .cycles
+  unfolding end padding frozenAt
+  padding-cycles zero c = refl
+  padding-cycles (suc k) c = padding-cycles k (padding rows c .after)
+
+  padding-halted : (k : ℕ) (c : Cursor) → end (padding rows) k c .halted ≡ c .halted
+  unfolding end padding frozenAt
+  padding-halted zero c = refl
+  padding-halted (suc k) c = padding-halted k (padding rows c .after)
+
+  -- ---- an accepted execution
+
+  module _ (c : Cursor) (max : ℕ) (few : max ≤ 2 ^ 32) where
+    abbrev count : ℕ
+    count = nextPowerOfTwo (liveCount rows max c)
+
+    -- its records
+    abbrev made : List ℕ
+    made = flat (liveRecords rows max c) ++ flat (recorded (padding rows) (count - liveCount rows max c) (stoppedAt rows max c))
+
+    made-words : (b : List ℕ) → take (17 * count) (executed rows c max b .buffer) ≡ made
+    unfolding executed
+    made-words b =
+        let k = liveCount rows max c in
+        let p = flat (liveRecords rows max c) in
+        let q = flat (recorded (padding rows) (count - k) (stoppedAt rows max c)) in
+        let enough : k ≤ count = smallest k (omega (arith, few, count-most rows max c)) .enough in
+        let long : length (p ++ q) ≡ 17 * count =
+        omega (arith, length-append p q, length-words (live rows) k c, length-words (padding rows) (count - k) (stoppedAt rows max c), enough) in
+        ap (take (17 * count)) (sym (append-assoc p q (drop (17 * count) b))) ∙ take-at (p ++ q) (drop (17 * count) b) (17 * count) long
+
+  executed-larger : (c : Cursor) (max more : ℕ) (b₁ b₂ : List ℕ) → more ≤ 2 ^ 32 → max ≤ more → executed rows c max b₁ .cursor .halted ≡ true
+      → SameAnswer (executed rows c max b₁) (executed rows c more b₂)
+  unfolding executed
+  executed-larger c max more b₁ b₂ few le h =
+      let k = liveCount rows max c in
+      let halted = sym (padding-halted (nextPowerOfTwo k - k) (stoppedAt rows max c)) ∙ h in
+      let same : liveCount rows more c ≡ k = same-count max more c le halted in
+      let w₁ = made-words c max (omega (arith, few, le)) b₁ in
+      let w₂ = made-words c more few b₂ in
+      record {
+        live = sym same;
+        count = ap nextPowerOfTwo (sym same);
+        cursor = ap (λ (m : ℕ). end (padding rows) (nextPowerOfTwo m - m) (end (live rows) m c)) (sym same);
+        records = w₁ ∙ ap (λ (m : ℕ). flat (recorded (live rows) m c) ++ flat (recorded (padding rows) (nextPowerOfTwo m - m) (end (live rows) m c))) (sym same) ∙ sym w₂;
+      }
+
+  executed-cycles : (c : Cursor) (max : ℕ) (b : List ℕ) → executed rows c max b .cursor .cycles ≡ c .cycles + executed rows c max b .live
+  unfolding executed
+  executed-cycles c max b = padding-cycles (nextPowerOfTwo (liveCount rows max c) - liveCount rows max c) (stoppedAt rows max c) ∙ live-cycles (liveCount rows max c) c
+
+-- ---- the call
+
+answered-number : (number : ℕ) (rows input : List ℕ) (max : ℕ) (b : List ℕ) → answered number rows input max b .number ≡ number
+unfolding answered executed
+answered-number zero rows input max b = refl
+answered-number (suc number) rows input max b = refl
+
+answered-cycles : (number : ℕ) (rows input : List ℕ) (max : ℕ) (b : List ℕ) → answered number rows input max b .cursor .cycles ≡ answered number rows input max b .live
+unfolding answered startOf
+answered-cycles zero rows input max b = executed-cycles rows (startOf input) max b ∙ zero-add _
+answered-cycles (suc number) rows input max b = refl
+
+execute-accepted : (rows input : List ℕ) (max : ℕ) (b : List ℕ) → executeOf rows input max b .number ≡ 0
+    → (executeOf rows input max b ≡ executed rows (startOf input) max b) × (max ≤ 2 ^ 32)
+unfolding executeOf
+execute-accepted rows input max b e =
+    let none = sym (answered-number (lowest (executeRefusals rows max (length b))) rows input max b) ∙ e in
+    (accepted-is rows input max b (sym none), accepted-execution rows input max (length b) none .1 .0)
+
+larger : (rows input : List ℕ) (max more : ℕ) (b₁ b₂ : List ℕ)
+    → executeOf rows input max b₁ .number ≡ 0 → executeOf rows input max b₁ .cursor .halted ≡ true
+    → max ≤ more → executeOf rows input more b₂ .number ≡ 0
+    → SameAnswer (executeOf rows input max b₁) (executeOf rows input more b₂)
+larger rows input max more b₁ b₂ e₁ h le e₂ =
+    let a₁ = execute-accepted rows input max b₁ e₁ in
+    let a₂ = execute-accepted rows input more b₂ e₂ in
+    rw (a₁ .0, a₂ .0) (executed-larger rows (startOf input) max more b₁ b₂ (a₂ .1) le (rw (a₁ .0) at h))
+
+execute-cycles : (rows input : List ℕ) (max : ℕ) (b : List ℕ) → executeOf rows input max b .cursor .cycles ≡ executeOf rows input max b .live
+unfolding executeOf
+execute-cycles rows input max b = answered-cycles (lowest (executeRefusals rows max (length b))) rows input max b
+
+pub execute-laws : ExecuteLaws
+execute-laws =
+    record {
+      smallest = smallest;
+      steps = λ rows max c. record { most = count-most rows max c; running = running rows max c; stopped = stopped rows max c };
+      cycles = execute-cycles;
+      larger = larger;
+    }
