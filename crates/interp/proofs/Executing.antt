@@ -1,23 +1,23 @@
 -- What is claimed of execute: the live count is the steps taken, and a larger limit changes nothing once the machine has
 -- halted. Assumes nothing.
-use mathlib.Core.Path.{_≡_, refl, ap, sym, _∙_}
-use mathlib.Core.Bool.{Bool, true, false}
-use mathlib.Core.List.{List, [], _++_, append-assoc}
+use mathlib.Core.Path.{_≡_, refl, ap, ap₂, sym, _∙_}
+use mathlib.Core.Bool.{Bool, true, false, cond}
+use mathlib.Core.List.{List, [], _∷_, _++_, append-assoc, append-nil}
 use Prim.Native.Nat.{ℕ, zero, suc, _+_, _-_, _*_, _^_, _≤_, _<_}
 use native.Mathlib.Nat.{zero-add}
 use native.Mathlib.Omega.{arith}
-use lib.ListN.{length, take, drop, length-append}
+use lib.ListN.{length, take, drop, replicate, length-append, length-replicate}
 use lib.Seq.{take-at}
 use Rattle.expand.specs.Expand.{lowest}
 use Rattle.interp.specs.declared.Cursor.{Cursor}
 use Rattle.interp.specs.Machine.{startOf, flat}
-use Rattle.interp.specs.Cycle.{commit, stepAt, live, frozenAt, padding}
-use Rattle.interp.specs.Calls.{recorded, end}
-use Rattle.interp.specs.Execute.{liveCount, liveRecords, stoppedAt, nextPowerOfTwo, executeRefusals, executed, answered, executeOf, Steps, SameAnswer, ExecuteLaws}
+use Rattle.interp.specs.Cycle.{commit, stepAt, live, frozenAt, padding, cycle}
+use Rattle.interp.specs.Calls.{recorded, end, segment, padded, amount, refusals, Answered, answerOf, counted, added, last, log}
+use Rattle.interp.specs.Execute.{liveCount, liveRecords, stoppedAt, nextPowerOfTwo, lengthLines, executeRefusals, executed, answered, executeOf, Steps, SameAnswer, Joined, ExecuteLaws}
 use Rattle.interp.proofs.Runs.{length-words}
 use Rattle.interp.proofs.Powers.{smallest}
-use Rattle.interp.proofs.Judged.{accepted-execution, accepted-is}
-use Rattle.interp.proofs.Halting.{count-halted, count-live, count-most}
+use Rattle.interp.proofs.Judged.{rows-accepted, fits-accepted, accepted-execution, accepted-answer, accepted-is}
+use Rattle.interp.proofs.Halting.{count-halted, count-live, count-most, ran-end, ran-recorded, live-kept}
 
 module _ (rows : List ℕ) where
   -- ---- the live cycles
@@ -116,6 +116,43 @@ module _ (rows : List ℕ) where
   unfolding executed
   executed-cycles c max b = padding-cycles (nextPowerOfTwo (liveCount rows max c) - liveCount rows max c) (stoppedAt rows max c) ∙ live-cycles (liveCount rows max c) c
 
+  -- ---- the calls that it stands for
+
+  -- as many live cycles as there are, all are taken again
+  count-again : (max : ℕ) (c : Cursor) → liveCount rows (liveCount rows max c) c ≡ liveCount rows max c
+  unfolding liveCount
+  count-again zero c = refl
+  count-again (suc max) c = go (c .halted) refl (count-again max (live rows c .after))
+    where
+      go : (b : Bool) → c .halted ≡ b
+          → liveCount rows (liveCount rows max (live rows c .after)) (live rows c .after) ≡ liveCount rows max (live rows c .after)
+          → liveCount rows (liveCount rows (suc max) c) c ≡ liveCount rows (suc max) c
+      go true e rest = rw (count-halted rows (suc max) c e) refl
+      go false e rest = rw (count-live rows max c e) (count-live rows (liveCount rows max (live rows c .after)) c e ∙ ap suc rest)
+
+  -- so a segment of that length is live throughout
+  module _ (c : Cursor) (max : ℕ) where
+    abbrev k : ℕ
+    k = liveCount rows max c
+
+    none : k - liveCount rows k c ≡ 0
+    none = omega (arith, count-again max c)
+
+    segment-end : end (cycle rows) k c ≡ stoppedAt rows max c
+    unfolding end
+    segment-end = sym (ran-end rows true k c) ∙ rw (none, count-again max c) refl
+
+    segment-recorded : recorded (cycle rows) k c ≡ liveRecords rows max c
+    unfolding recorded
+    segment-recorded = sym (ran-recorded rows true k c) ∙ rw (none, count-again max c) (append-nil (liveRecords rows max c))
+
+  -- live cycles stay within the rows
+  inside : (n : ℕ) (c : Cursor) → c .«micro_pc» .0 < length rows → c .«next_fetch» .0 < length rows
+      → (end (live rows) n c .«micro_pc» .0 < length rows) × (end (live rows) n c .«next_fetch» .0 < length rows)
+  unfolding end
+  inside zero c p f = (p, f)
+  inside (suc n) c p f = let kept = live-kept rows c p in inside n (live rows c .after) (kept .0) (kept .1 .0)
+
 -- ---- the call
 
 answered-number : (number : ℕ) (rows input : List ℕ) (max : ℕ) (b : List ℕ) → answered number rows input max b .number ≡ number
@@ -144,6 +181,51 @@ larger rows input max more b₁ b₂ e₁ h le e₂ =
     let a₂ = execute-accepted rows input more b₂ e₂ in
     rw (a₁ .0, a₂ .0) (executed-larger rows (startOf input) max more b₁ b₂ (a₂ .1) le (rw (a₁ .0) at h))
 
+-- two accepted calls, one after the other: their log, and their last cursor
+two-calls : (rows : List ℕ) (c : Cursor) (m n : ℕ) (z₁ z₂ : List ℕ)
+    → 0 ≡ lowest (refusals rows c true m (length z₁)) → 0 ≡ lowest (refusals rows (end (cycle rows) m c) false n (length z₂))
+    → (log rows c (segment m z₁ ∷ padded n z₂ ∷ []) ≡ flat (recorded (cycle rows) m c) ++ flat (recorded (padding rows) n (end (cycle rows) m c)))
+    × (last rows c (segment m z₁ ∷ padded n z₂ ∷ []) ≡ end (padding rows) n (end (cycle rows) m c))
+unfolding log last added counted amount
+two-calls rows c m n z₁ z₂ e₁ e₂ =
+    let c₁ = end (cycle rows) m c in
+    let p = flat (recorded (cycle rows) m c) in
+    let q = flat (recorded (padding rows) n c₁) in
+    let a₁ = accepted-answer true rows c m z₁ e₁ in
+    let a₂ = accepted-answer false rows c₁ n z₂ e₂ in
+    let cursor : Answered → Cursor = λ a. a .cursor in (
+      rw (a₁, a₂) (ap₂ _++_ (take-at p (drop (17 * m) z₁) (17 * m) (length-words (cycle rows) m c)) (append-nil (take (17 * n) (q ++ drop (17 * n) z₂)) ∙ take-at q (drop (17 * n) z₂) (17 * n) (length-words (padding rows) n c₁))),
+      ap (λ (d : Cursor). answerOf rows d (padded n z₂) .cursor) (ap cursor a₁) ∙ ap cursor a₂,
+    )
+
+executed-joined : (rows input : List ℕ) (max : ℕ) (b : List ℕ) → lowest (executeRefusals rows max (length b)) ≡ 0
+    → Joined rows input (executed rows (startOf input) max b)
+unfolding executed startOf
+executed-joined rows input max b e =
+    let c = startOf input in
+    let k = liveCount rows max c in
+    let rest = nextPowerOfTwo k - k in
+    let passed = rows-accepted rows (lengthLines max (length b)) e in
+    let few = accepted-execution rows input max (length b) e .1 .0 in
+    let most = count-most rows max c in
+    let e₁ : end (cycle rows) k c ≡ stoppedAt rows max c = segment-end rows c max in
+    let within = inside rows k c (passed .some) (passed .some) in
+    let z₁ : List ℕ = replicate (17 * k) 0 in
+    let z₂ : List ℕ = replicate (17 * rest) 0 in
+    let first = fits-accepted rows c true k (length z₁) (passed .none) (passed .some) (passed .some) (omega (arith, few, most)) (omega (arith, length-replicate {A = ℕ} (17 * k) 0)) in
+    let second = fits-accepted rows (stoppedAt rows max c) false rest (length z₂) (passed .none) (within .0) (within .1) (omega arith) (omega (arith, length-replicate {A = ℕ} (17 * rest) 0)) in
+    let two = two-calls rows c k rest z₁ z₂ first (rw e₁ second) in
+    record {
+      records = made-words rows c max few b ∙ sym (two .0 ∙ rw (e₁, segment-recorded rows c max) refl);
+      cursor = sym (two .1 ∙ rw e₁ refl);
+    }
+
+joined : (rows input : List ℕ) (max : ℕ) (b : List ℕ) → executeOf rows input max b .number ≡ 0 → Joined rows input (executeOf rows input max b)
+unfolding executeOf
+joined rows input max b e =
+    let none = sym (answered-number (lowest (executeRefusals rows max (length b))) rows input max b) ∙ e in
+    rw (accepted-is rows input max b (sym none)) (executed-joined rows input max b none)
+
 execute-cycles : (rows input : List ℕ) (max : ℕ) (b : List ℕ) → executeOf rows input max b .cursor .cycles ≡ executeOf rows input max b .live
 unfolding executeOf
 execute-cycles rows input max b = answered-cycles (lowest (executeRefusals rows max (length b))) rows input max b
@@ -154,5 +236,6 @@ execute-laws =
       smallest = smallest;
       steps = λ rows max c. record { most = count-most rows max c; running = running rows max c; stopped = stopped rows max c };
       cycles = execute-cycles;
+      joined = joined;
       larger = larger;
     }

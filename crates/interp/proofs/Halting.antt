@@ -186,7 +186,7 @@ pub not-over : (halted : Bool) (i n : ℕ) → cond halted true (eqb i n) ≡ fa
 not-over true i n e le = absurd (false≢true (sym e))
 not-over false i n e le = (refl, omega (arith, le, eqb-false i n e))
 
-live-kept : (rows : List ℕ) (c : Cursor) → c .«micro_pc» .0 < length rows
+pub live-kept : (rows : List ℕ) (c : Cursor) → c .«micro_pc» .0 < length rows
     → (live rows c .after .«micro_pc» .0 < length rows) × ((live rows c .after .«next_fetch» .0 < length rows) × (live rows c .after .cycles ≡ suc (c .cycles)))
 unfolding live stepAt commit
 live-kept rows c h =

@@ -69,13 +69,18 @@ rows-refused why rows rest e = e ∙ sym (rows-first rows rest ∙ rw (sym e, re
 pub rows-passed : (rows : List ℕ) (rest : List Line) → 0 ≡ lowest (rowLines rows) → lowest rest ≡ lowest (rowLines rows ++ rest)
 rows-passed rows rest e = sym (rows-first rows rest ∙ rw (sym e) refl)
 
--- what rows have in an accepted call, and that no other line is met
-rows-accepted : (rows : List ℕ) (rest : List Line) → lowest (rowLines rows ++ rest) ≡ 0 → (0 < length rows) × (lowest rest ≡ 0)
+-- what rows have in an accepted call: there are some, they meet no line, and no other line is met
+pub record Passed (rows : List ℕ) (rest : List Line) : Type 0 where
+  pub some : 0 < length rows
+  pub none : 0 ≡ lowest (rowLines rows)
+  pub others : lowest rest ≡ 0
+
+pub rows-accepted : (rows : List ℕ) (rest : List Line) → lowest (rowLines rows ++ rest) ≡ 0 → Passed rows rest
 rows-accepted rows rest e =
     let p₁ = unmet (eqb (length rows) 0) 1 _ (omega arith) e in
     let p₂ = unmet (ltb 6291456 (length rows)) 2 _ (omega arith) (p₁ .1) in
     let p₃ = unmet (not (isExpansion rows)) 3 _ (omega arith) (p₂ .1) in
-    (omega (arith, eqb-false (length rows) 0 (p₁ .0)), p₃ .1)
+    record { some = omega (arith, eqb-false (length rows) 0 (p₁ .0)); none = rw (p₁ .0, p₂ .0, p₃ .0) refl; others = p₃ .1 }
 
 -- ---- what an accepted call has
 
@@ -92,7 +97,7 @@ pub accepted : (rows : List ℕ) (c : Cursor) (live : Bool) (n room : ℕ) → l
     → Ready (length rows) (coreOf c) (cond live n 0) room × (17 * n ≤ room)
 accepted rows c live n room e =
     let p₃ = rows-accepted rows (callLines (length rows) c live n room) e in
-    let p₄ = unmet (not (ltb (c .«micro_pc» .0) (length rows) && ltb (c .«next_fetch» .0) (length rows))) 4 _ (omega arith) (p₃ .1) in
+    let p₄ = unmet (not (ltb (c .«micro_pc» .0) (length rows) && ltb (c .«next_fetch» .0) (length rows))) 4 _ (omega arith) (p₃ .others) in
     let p₅ = unmet (live && ltb (2 ^ 62) (c .cycles + n)) 5 _ (omega arith) (p₄ .1) in
     let p₆ = unmet (ltb room (17 * n)) 6 _ (omega arith) (p₅ .1) in
     let inside = both (ltb (c .«micro_pc» .0) (length rows)) (ltb (c .«next_fetch» .0) (length rows)) (p₄ .0) in
@@ -112,14 +117,25 @@ pub accepted-execution : (rows input : List ℕ) (max room : ℕ) → lowest (ex
 unfolding startOf
 accepted-execution rows input max room e =
     let p₃ = rows-accepted rows (lengthLines max room) e in
-    let p₅ = unmet (ltb (2 ^ 32) max) 5 _ (omega arith) (p₃ .1) in
+    let p₅ = unmet (ltb (2 ^ 32) max) 5 _ (omega arith) (p₃ .others) in
     let p₆ = unmet (ltb room (17 * nextPowerOfTwo max)) 6 _ (omega arith) (p₅ .1) in
     let few : max ≤ 2 ^ 32 = ltb-false _ _ (p₅ .0) in
     let fits : 17 * nextPowerOfTwo max ≤ room = ltb-false _ _ (p₆ .0) in
     let enough = smallest max (omega (arith, few)) .enough in (
-      record { pc = p₃ .0; fetch = p₃ .0; few-cycles = λ h. omega (arith, few); fits = omega (arith, fits, enough) },
+      record { pc = p₃ .some; fetch = p₃ .some; few-cycles = λ h. omega (arith, few); fits = omega (arith, fits, enough) },
       (few, fits),
     )
+
+-- on rows that are accepted, a call at a row of theirs is accepted if it fits
+pub fits-accepted : (rows : List ℕ) (c : Cursor) (live : Bool) (n room : ℕ) → 0 ≡ lowest (rowLines rows)
+    → c .«micro_pc» .0 < length rows → c .«next_fetch» .0 < length rows → cond live (c .cycles + n) 0 ≤ 2 ^ 62 → 17 * n ≤ room
+    → 0 ≡ lowest (refusals rows c live n room)
+fits-accepted rows c live n room none pc fetch few fits =
+    sym (rw (lt-ltb _ _ pc, lt-ltb _ _ fetch, not-long live few, le-ltb room (17 * n) fits) refl) ∙ rows-passed rows (callLines (length rows) c live n room) none
+  where
+    not-long : (b : Bool) → cond b (c .cycles + n) 0 ≤ 2 ^ 62 → (b && ltb (2 ^ 62) (c .cycles + n)) ≡ false
+    not-long true h = le-ltb _ _ h
+    not-long false h = refl
 
 -- ---- the answers
 

@@ -4,14 +4,14 @@ use mathlib.Core.Path.{_≡_}
 use Prim.Native.Nat.{ℕ, zero, suc, _-_, _*_, _^_, _≤_, _<_}
 use mathlib.Core.Bool.{Bool, true, false, cond}
 use mathlib.Core.List.{List, [], _∷_, _++_}
-use lib.ListN.{length, take, drop}
+use lib.ListN.{length, take, drop, replicate}
 use lib.Dec.{ltb}
 use Rattle.expand.specs.Expand.{Line, line, lowest}
 use Rattle.interp.specs.declared.Cursor.{Cursor}
 use Rattle.interp.specs.declared.CycleRecord.{CycleRecord}
 use Rattle.interp.specs.Machine.{startOf, flat}
 use Rattle.interp.specs.Cycle.{live, padding}
-use Rattle.interp.specs.Calls.{recorded, end, rowLines}
+use Rattle.interp.specs.Calls.{recorded, end, Call, segment, padded, rowLines, last, log}
 
 -- ---- the live cycles
 
@@ -103,6 +103,18 @@ pub record SameAnswer (a b : Executed) : Type 0 where
   pub cursor : a .cursor ≡ b .cursor
   pub records : take (17 * a .count) (a .buffer) ≡ take (17 * b .count) (b .buffer)
 
+-- the calls that an execution stands for: a segment call of its live cycles, and a padding call of the rest
+abbrev pub callsOf : Executed → List Call
+callsOf e =
+    segment (e .live) (replicate (17 * e .live) 0)
+    ∷ padded (e .count - e .live) (replicate (17 * (e .count - e .live)) 0)
+    ∷ []
+
+-- its records are the joined log of those calls from the fresh cursor, and its cursor is their last one
+pub record Joined (rows input : List ℕ) (e : Executed) : Type 0 where
+  pub records : take (17 * e .count) (e .buffer) ≡ log rows (startOf input) (callsOf e)
+  pub cursor : e .cursor ≡ last rows (startOf input) (callsOf e)
+
 pub record ExecuteLaws : Type 0 where
   -- of every u64
   pub smallest : (n : ℕ) → n < 2 ^ 64 → Smallest n (nextPowerOfTwo n)
@@ -111,6 +123,9 @@ pub record ExecuteLaws : Type 0 where
   -- the cursor that is handed back has counted the live cycles
   pub cycles : (rows input : List ℕ) (max : ℕ) (buffer : List ℕ)
       → executeOf rows input max buffer .cursor .cycles ≡ executeOf rows input max buffer .live
+  -- so what demand 3 says of lists of calls holds of an execution
+  pub joined : (rows input : List ℕ) (max : ℕ) (buffer : List ℕ) → executeOf rows input max buffer .number ≡ 0
+      → Joined rows input (executeOf rows input max buffer)
   -- if it halted, every larger accepted max_cycles gives the same answer
   pub larger : (rows input : List ℕ) (max more : ℕ) (b₁ b₂ : List ℕ)
       → executeOf rows input max b₁ .number ≡ 0 → executeOf rows input max b₁ .cursor .halted ≡ true
