@@ -13,7 +13,7 @@ use Rattle.interp.specs.declared.Cursor.{Cursor}
 use Rattle.interp.specs.Machine.{startOf, flat}
 use Rattle.interp.specs.Cycle.{commit, stepAt, live, frozenAt, padding, cycle}
 use Rattle.interp.specs.Calls.{recorded, end, segment, padded, amount, refusals, Answered, answerOf, counted, added, last, log}
-use Rattle.interp.specs.Execute.{liveCount, liveRecords, stoppedAt, nextPowerOfTwo, lengthLines, executeRefusals, executed, answered, executeOf, Steps, SameAnswer, Joined, ExecuteLaws}
+use Rattle.interp.specs.Execute.{liveCount, liveRecords, stoppedAt, nextPowerOfTwo, lengthLines, executeRefusals, executed, answered, executeOf, Steps, Counts, SameAnswer, Joined, ExecuteLaws}
 use Rattle.interp.proofs.Runs.{length-words}
 use Rattle.interp.proofs.Powers.{smallest}
 use Rattle.interp.proofs.Judged.{rows-accepted, fits-accepted, accepted-execution, accepted-answer, accepted-is}
@@ -172,6 +172,10 @@ execute-accepted rows input max b e =
     let none = sym (answered-number (lowest (executeRefusals rows max (length b))) rows input max b) ∙ e in
     (accepted-is rows input max b (sym none), accepted-execution rows input max (length b) none .1 .0)
 
+counts : (rows input : List ℕ) (max : ℕ) (b : List ℕ) → executeOf rows input max b .number ≡ 0 → Counts rows input max (executeOf rows input max b)
+unfolding executed
+counts rows input max b e = rw (execute-accepted rows input max b e .0) (record { live = refl; count = refl })
+
 larger : (rows input : List ℕ) (max more : ℕ) (b₁ b₂ : List ℕ)
     → executeOf rows input max b₁ .number ≡ 0 → executeOf rows input max b₁ .cursor .halted ≡ true
     → max ≤ more → executeOf rows input more b₂ .number ≡ 0
@@ -235,6 +239,7 @@ execute-laws =
     record {
       smallest = smallest;
       steps = λ rows max c. record { most = count-most rows max c; running = running rows max c; stopped = stopped rows max c };
+      counts = counts;
       cycles = execute-cycles;
       joined = joined;
       larger = larger;

@@ -53,17 +53,17 @@ rows-first : (rows : List ℕ) (rest : List Line)
     → lowest (rowLines rows ++ rest) ≡ cond (eqb (lowest (rowLines rows)) 0) (lowest rest) (lowest (rowLines rows))
 rows-first rows rest = first-three (eqb (length rows) 0) (ltb 6291456 (length rows)) (not (isExpansion rows)) (lowest rest)
 
+pub refused-not-0 : (why : Refusal) → eqb (numberOf why) 0 ≡ false
+refused-not-0 NoRows = refl
+refused-not-0 TooManyRows = refl
+refused-not-0 NoExpansion = refl
+refused-not-0 OutsideRows = refl
+refused-not-0 TooManyCycles = refl
+refused-not-0 Short = refl
+
 -- rows that are refused decide
 pub rows-refused : (why : Refusal) (rows : List ℕ) (rest : List Line) → numberOf why ≡ lowest (rowLines rows) → numberOf why ≡ lowest (rowLines rows ++ rest)
 rows-refused why rows rest e = e ∙ sym (rows-first rows rest ∙ rw (sym e, refused-not-0 why) refl)
-  where
-    refused-not-0 : (w : Refusal) → eqb (numberOf w) 0 ≡ false
-    refused-not-0 NoRows = refl
-    refused-not-0 TooManyRows = refl
-    refused-not-0 NoExpansion = refl
-    refused-not-0 OutsideRows = refl
-    refused-not-0 TooManyCycles = refl
-    refused-not-0 Short = refl
 
 -- rows that are not leave it to the other lines
 pub rows-passed : (rows : List ℕ) (rest : List Line) → 0 ≡ lowest (rowLines rows) → lowest rest ≡ lowest (rowLines rows ++ rest)

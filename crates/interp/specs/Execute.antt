@@ -96,6 +96,11 @@ pub record Steps (rows : List ℕ) (max : ℕ) (c : Cursor) : Type 0 where
   pub running : (j : ℕ) → j < liveCount rows max c → end (live rows) j c .halted ≡ false
   pub stopped : liveCount rows max c < max → stoppedAt rows max c .halted ≡ true
 
+-- the counts of an accepted execution
+pub record Counts (rows input : List ℕ) (max : ℕ) (e : Executed) : Type 0 where
+  pub live : e .live ≡ liveCount rows max (startOf input)
+  pub count : e .count ≡ nextPowerOfTwo (e .live)
+
 -- two executions give the same answer: live count, record count, cursor, and the words of their records
 pub record SameAnswer (a b : Executed) : Type 0 where
   pub live : a .live ≡ b .live
@@ -120,6 +125,9 @@ pub record ExecuteLaws : Type 0 where
   pub smallest : (n : ℕ) → n < 2 ^ 64 → Smallest n (nextPowerOfTwo n)
   -- from every cursor
   pub steps : (rows : List ℕ) (max : ℕ) (c : Cursor) → Steps rows max c
+  -- the live count is the steps from the fresh cursor on, the record count its power of two
+  pub counts : (rows input : List ℕ) (max : ℕ) (buffer : List ℕ) → executeOf rows input max buffer .number ≡ 0
+      → Counts rows input max (executeOf rows input max buffer)
   -- the cursor that is handed back has counted the live cycles
   pub cycles : (rows input : List ℕ) (max : ℕ) (buffer : List ℕ)
       → executeOf rows input max buffer .cursor .cycles ≡ executeOf rows input max buffer .live
