@@ -18,9 +18,6 @@ mod cells;
 mod state;
 
 use calls::Line;
-use calls::Next;
-use calls::Text;
-use calls::Unread;
 use cells::CELLS;
 use cells::Cells;
 use cells::cells_of;
@@ -42,6 +39,9 @@ use state::give_up;
 use state::say_both;
 use state::say_total;
 use state::wrong;
+use text_lines::Next;
+use text_lines::Text;
+use text_lines::Unread;
 ghost use Prim.Native.Nat.{_+_, _≤_, _<_};
 ghost use lib.ListN.{length};
 
