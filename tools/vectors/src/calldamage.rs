@@ -31,63 +31,42 @@
 //! 28. the list ends in the middle of its last line
 
 use crate::callline::CALLS;
+use crate::linedamage::apply;
+use crate::linedamage::Damage::{self, Before, Cut, Flip, Keep, Last, Less, Text, Twice};
 use crate::list::fed_lines;
 use crate::plan;
-use std::str;
 
 /// The most lines of a list that is taken.
 const MOST_LINES: usize = 24;
 
-/// What is done to a list. A letter means the first line that begins with it.
-#[derive(Clone, Copy, Debug)]
-enum Damage {
-    /// Nothing: the list stays good.
-    Keep,
-    /// The lowest bit of this number of a line, counted from one, is flipped.
-    Flip(char, usize),
-    /// The first text becomes the second, in the first line that has it.
-    Text(char, &'static str, &'static str),
-    /// A line that is not the last is left out.
-    Less(char),
-    Twice(char),
-    /// A line is put before.
-    Before(char, &'static str),
-    /// A last line is added.
-    Last(&'static str),
-    /// The last line ends in its middle, without a line feed.
-    Cut,
-}
-
-use Damage::{Before, Cut, Flip, Keep, Last, Less, Text, Twice};
-
 const PLAN: [Damage; 28] = [
     Keep,
-    Flip('r', 15),
-    Flip('r', 5),
-    Flip('r', 17),
-    Flip('c', 2),
-    Flip('c', 3),
-    Flip('c', 5),
+    Flip("r", 15),
+    Flip("r", 5),
+    Flip("r", 17),
+    Flip("c", 2),
+    Flip("c", 3),
+    Flip("c", 5),
     Keep,
-    Flip('g', 2),
-    Less('g'),
-    Twice('g'),
-    Flip('m', 2),
+    Flip("g", 2),
+    Less("g"),
+    Twice("g"),
+    Flip("m", 2),
     Last("m ff 1\n"),
-    Text('s', " 6\n", " 5\n"),
+    Text("s", " 6\n", " 5\n"),
     // Only of an odd number of words this takes one away.
-    Flip('s', 2),
+    Flip("s", 2),
     Keep,
-    Less('r'),
-    Twice('r'),
-    Text('p', " 0\n", "\n"),
-    Before('c', "x 1 2\n"),
-    Before('c', "\n"),
-    Text('r', "f ", "F "),
-    Text('c', "c ", "c 0"),
-    Flip('l', 1),
-    Text('w', "w ", "w 100000000"),
-    Less('i'),
+    Less("r"),
+    Twice("r"),
+    Text("p", " 0\n", "\n"),
+    Before("c", "x 1 2\n"),
+    Before("c", "\n"),
+    Text("r", "f ", "F "),
+    Text("c", "c ", "c 0"),
+    Flip("l", 1),
+    Text("w", "w ", "w 100000000"),
+    Less("i"),
     Keep,
     Cut,
 ];
@@ -95,57 +74,8 @@ const PLAN: [Damage; 28] = [
 pub fn listing(list: &[u8]) -> Result<Vec<u8>, String> {
     let lines = |part: &[u8]| fed_lines(part).count();
     plan::carry_out(&CALLS, list, &PLAN, |&damage, part| {
-        (lines(part) <= MOST_LINES).then(|| apply(damage, part))?
+        (lines(part) <= MOST_LINES).then(|| apply(&CALLS, damage, part))?
     })
-}
-
-/// The damaged list; `None` where the damage cannot be done to this one, or
-/// would make it the right list of other calls.
-fn apply(damage: Damage, part: &[u8]) -> Option<Vec<u8>> {
-    let text = str::from_utf8(part).ok()?;
-    let mut lines: Vec<String> = text.split_inclusive('\n').map(String::from).collect();
-    let last = lines.len() - 1;
-    let first = |letter| lines.iter().position(|line| line.starts_with(letter));
-    match damage {
-        Keep => {}
-        Flip(letter, number) => {
-            let place = first(letter)?;
-            lines[place] = flipped(&lines[place], number)?;
-        }
-        Text(letter, from, to) => {
-            let has = |line: &&mut String| line.starts_with(letter) && line.contains(from);
-            let line = lines.iter_mut().find(has)?;
-            *line = line.replacen(from, to, 1);
-        }
-        Less(letter) => {
-            let place = first(letter).filter(|&place| place != last)?;
-            lines.remove(place);
-        }
-        Twice(letter) => {
-            let place = first(letter)?;
-            lines.insert(place, lines[place].clone());
-        }
-        Before(letter, line) => {
-            let place = first(letter)?;
-            lines.insert(place, line.to_string());
-        }
-        Last(line) => lines.push(line.to_string()),
-        Cut => {
-            let half = lines[last].len() / 2;
-            lines[last].truncate(half);
-        }
-    }
-    let changed = lines.concat().into_bytes();
-    let right = (CALLS.first_wrong)(&changed).is_none();
-    (right == matches!(damage, Keep)).then_some(changed)
-}
-
-/// The line with the lowest bit of one of its numbers flipped.
-fn flipped(line: &str, number: usize) -> Option<String> {
-    let mut words: Vec<String> = line.trim_end().split(' ').map(String::from).collect();
-    let word = words.get_mut(number)?;
-    *word = format!("{:x}", u64::from_str_radix(word, 16).ok()? ^ 1);
-    Some(words.join(" ") + "\n")
 }
 
 #[cfg(test)]
@@ -177,7 +107,8 @@ mod tests {
     /// The line that a step, counted from one, makes wrong, counted from one,
     /// and what stands there then. A cut line has no line feed.
     fn wrong_line(step: usize) -> Option<(usize, String)> {
-        let changed = apply(PLAN[step - 1], example().as_bytes()).expect("the damage can be done");
+        let changed =
+            apply(&CALLS, PLAN[step - 1], example().as_bytes()).expect("the damage can be done");
         let wrong = (CALLS.first_wrong)(&changed)?;
         let line = fed_lines(&changed).nth(wrong).unwrap_or(b"").to_vec();
         Some((wrong + 1, String::from_utf8(line).unwrap()))
@@ -245,6 +176,6 @@ mod tests {
     #[test]
     fn a_short_list_is_refused() {
         let message = listing(example().as_bytes()).unwrap_err();
-        assert!(message.contains("allows Flip('r', 15)"), "{message}");
+        assert!(message.contains("allows Flip(\"r\", 15)"), "{message}");
     }
 }

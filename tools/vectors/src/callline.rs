@@ -10,7 +10,7 @@
 //! - `g`, `m`: a register or a RAM word that the call changed; number and value
 
 use crate::calllist::{Call, CallKind, CallList, MOST_INPUT, MOST_ROOM, MOST_ROWS, MOST_WORDS};
-use crate::list::{fed_lines, ListKind};
+use crate::list::{fed_lines, first_difference, ListKind};
 use magnetar_source::expand::{expand_program, ExpandedProgram};
 use magnetar_source::interp::{pad_records, CycleRecord, StreamCursor};
 use records::pack;
@@ -113,9 +113,7 @@ fn first_wrong(part: &[u8]) -> Option<usize> {
         Ok(list) => list,
         Err(line) => return Some(line),
     };
-    let answer = answers(&list);
-    let right: Vec<&[u8]> = fed_lines(answer.as_bytes()).collect();
-    (0..kept.len().max(right.len())).find(|&line| kept.get(line) != right.get(line))
+    first_difference(&kept, &answers(&list))
 }
 
 /// What the lines ask the unchanged Rust for. The error is a line without which

@@ -58,7 +58,7 @@ fn add(set: &mut WordSet, form: &Form, value: i64, registers: [u32; 3]) {
 }
 
 /// The operand bits of a word; what the format does not have is dropped.
-fn operands(format: Format, value: i64, [d, s1, s2]: [u32; 3]) -> u32 {
+pub fn operands(format: Format, value: i64, [d, s1, s2]: [u32; 3]) -> u32 {
     match format {
         Format::Register => rd(d) | rs1(s1) | rs2(s2),
         Format::Immediate | Format::Offset => rd(d) | rs1(s1) | i(value),

@@ -2,7 +2,7 @@
 //! listed.
 
 mod alu;
-mod bounds;
+pub mod bounds;
 #[cfg(test)]
 mod callclaims;
 #[cfg(test)]
@@ -13,7 +13,7 @@ mod padding;
 mod random;
 mod rooms;
 mod shifts;
-mod system;
+pub mod system;
 #[cfg(test)]
 mod told;
 
@@ -24,7 +24,7 @@ use crate::words::ECALL;
 use magnetar_source::expand::expand_program;
 
 /// The boundaries of words and doublewords, and a number without a pattern.
-const VALUES: [u64; 8] = [
+pub const VALUES: [u64; 8] = [
     0,
     1,
     1 << 31,
@@ -56,7 +56,7 @@ fn all() -> Vec<CallList> {
 
 /// A program that loads the values into x1, x2 and so on, does what the words
 /// say, and halts: run in one call of as many cycles as it has rows.
-fn straight(values: &[u64], words: impl IntoIterator<Item = u32>) -> CallList {
+pub fn straight(values: &[u64], words: impl IntoIterator<Item = u32>) -> CallList {
     let mut program = loads(values.len());
     program.extend(words);
     program.push(ECALL);
@@ -68,7 +68,7 @@ fn straight(values: &[u64], words: impl IntoIterator<Item = u32>) -> CallList {
 }
 
 /// Words that load the first words of the input into x1, x2 and so on.
-fn loads(count: usize) -> Vec<u32> {
+pub fn loads(count: usize) -> Vec<u32> {
     let numbers = (1..).zip((0..).step_by(8)).take(count);
     numbers
         .map(|(register, address)| ld([register, 0], address))

@@ -7,7 +7,7 @@ use std::path::Path;
 
 /// A kind of list. Its parts are the lines that are right or wrong together:
 /// each line of a list of words, all lines of a program in a list of programs,
-/// all lines of a list of calls.
+/// all lines of a list of calls, all lines of a case in a list of traces.
 pub struct ListKind {
     /// The characters of a line, where all lines have the same number.
     pub width: Option<usize>,
@@ -102,6 +102,13 @@ pub fn fed_lines(list: &[u8]) -> impl Iterator<Item = &[u8]> {
     list.split_inclusive(|&byte| byte == b'\n')
 }
 
+/// The first line that is not that of the right text, counted from zero: one of
+/// them, or the one behind where one is missing or too many.
+pub fn first_difference(kept: &[&[u8]], right: &str) -> Option<usize> {
+    let right: Vec<&[u8]> = fed_lines(right.as_bytes()).collect();
+    (0..kept.len().max(right.len())).find(|&line| kept.get(line) != right.get(line))
+}
+
 /// How many lines end before this byte.
 pub fn lines_before(list: &[u8], offset: usize) -> usize {
     list[..offset].iter().filter(|&&byte| byte == b'\n').count()
@@ -148,6 +155,17 @@ mod tests {
         assert_eq!(found, [&b"a\n"[..], b"\n", b"bc\n", b"d"]);
         let before: Vec<usize> = (0..=7).map(|offset| lines_before(list, offset)).collect();
         assert_eq!(before, [0, 0, 1, 2, 2, 2, 3, 3]);
+    }
+
+    #[test]
+    fn the_first_difference_of_lines() {
+        let found = |kept: &[u8]| first_difference(&fed_lines(kept).collect::<Vec<_>>(), "a\nb\n");
+        assert_eq!(found(b"a\nb\n"), None);
+        assert_eq!(found(b"a\nc\n"), Some(1));
+        assert_eq!(found(b"a\nb"), Some(1));
+        assert_eq!(found(b"a\n"), Some(1));
+        assert_eq!(found(b"a\nb\nc\n"), Some(2));
+        assert_eq!(found(b""), Some(0));
     }
 
     #[test]

@@ -1,18 +1,23 @@
-//! Makes and tests the lists of decoded words, of expanded programs and of
-//! segment and padding calls that the port is compared with.
+//! Makes and tests the lists of decoded words, of expanded programs, of segment
+//! and padding calls and of traces that the port is compared with, and compares
+//! the program `trace` on random inputs.
 
+mod answer;
 mod asm;
 mod calldamage;
 mod callline;
 mod calllist;
+mod compare;
 mod damage;
 mod encode;
 mod forms;
 mod formwords;
 mod immediate;
 mod interp;
+mod linedamage;
 mod list;
 mod listing;
+mod mixed;
 mod mutate;
 mod objdump;
 mod operands;
@@ -21,6 +26,9 @@ mod programs;
 mod rowdamage;
 mod rowline;
 mod tempfile;
+mod trace;
+mod tracedamage;
+mod traceline;
 mod words;
 mod wordset;
 
@@ -29,9 +37,11 @@ use list::{ListKind, WORDS};
 use rowline::PROGRAMS;
 use std::env;
 use std::ffi::OsString;
-use std::io::{self, Write};
+use std::io::{self, Read, Write};
 use std::path::Path;
 use std::process::ExitCode;
+use std::str::FromStr;
+use traceline::TRACES;
 
 const USAGE: &str = "\
 usage: vectors decode                            list the unchanged Rust's answers
@@ -44,8 +54,13 @@ usage: vectors decode                            list the unchanged Rust's answe
        vectors interp                            list the unchanged Rust's records and cursors
        vectors damage-calls FILE                 as damage, for lists of calls
        vectors mutate-calls PROGRAM FILE COUNT   as mutate, for lists of calls
+       vectors trace                             list what the program trace must print
+       vectors damage-trace FILE                 as damage, for a list of traces
+       vectors mutate-trace PROGRAM FILE COUNT   as mutate, for a list of traces
+       vectors answer-trace                      print what trace must print for standard input
+       vectors compare-trace PROGRAM COUNT SEED  compare PROGRAM with trace on random inputs
 ";
-const COMMANDS: [&str; 10] = [
+const COMMANDS: [&str; 15] = [
     "decode",
     "objdump",
     "damage",
@@ -56,6 +71,11 @@ const COMMANDS: [&str; 10] = [
     "interp",
     "damage-calls",
     "mutate-calls",
+    "trace",
+    "damage-trace",
+    "mutate-trace",
+    "answer-trace",
+    "compare-trace",
 ];
 
 /// Why a run did not succeed.
@@ -106,6 +126,13 @@ fn run(arguments: &[OsString]) -> Result<ExitCode, Failure> {
             print(&calldamage::listing(&CALLS.read(Path::new(file))?)?)
         }
         (Some("mutate-calls"), [program, file, count]) => mutations(&CALLS, program, file, count),
+        (Some("trace"), []) => print(trace::listing().as_bytes()),
+        (Some("damage-trace"), [file]) => {
+            print(&tracedamage::listing(&TRACES.read(Path::new(file))?)?)
+        }
+        (Some("mutate-trace"), [program, file, count]) => mutations(&TRACES, program, file, count),
+        (Some("answer-trace"), []) => print(&answer::answer(&standard_input()?)),
+        (Some("compare-trace"), [program, count, seed]) => comparison(program, count, seed),
         (Some(known), _) if COMMANDS.contains(&known) => Err(Failure::Call(format!(
             "wrong number of arguments for {known}"
         ))),
@@ -122,25 +149,51 @@ fn mutations(
     file: &OsString,
     count: &OsString,
 ) -> Result<ExitCode, Failure> {
-    let count = match count.to_str().and_then(|text| text.parse().ok()) {
-        Some(number) if number > 0 => number,
-        _ => {
-            return Err(Failure::Call(format!(
-                "COUNT must be a positive number, not {}",
-                count.display()
-            )))
-        }
-    };
+    let count = positive(count)?;
     let file = Path::new(file);
     let list = kind.read(file)?;
     mutate::require_silence(program, file)?;
     let unnoticed = mutate::unnoticed(kind, &list, count, |bytes| mutate::run_on(program, bytes))?;
     print(mutate::report(count, &unnoticed).as_bytes())?;
-    Ok(if unnoticed.is_empty() {
-        ExitCode::SUCCESS
-    } else {
-        ExitCode::FAILURE
+    Ok(success_if(unnoticed.is_empty()))
+}
+
+fn comparison(program: &OsString, count: &OsString, seed: &OsString) -> Result<ExitCode, Failure> {
+    let count = positive(count)?;
+    let seed = number(seed)
+        .ok_or_else(|| Failure::Call(format!("SEED must be a number, not {}", seed.display())))?;
+    let comparison = compare::compare(count, seed, |input| compare::run_with(program, input))?;
+    print(comparison.report().as_bytes())?;
+    Ok(success_if(comparison.is_good()))
+}
+
+fn success_if(good: bool) -> ExitCode {
+    match good {
+        true => ExitCode::SUCCESS,
+        false => ExitCode::FAILURE,
+    }
+}
+
+fn positive(count: &OsString) -> Result<usize, Failure> {
+    number(count).filter(|&number| number > 0).ok_or_else(|| {
+        Failure::Call(format!(
+            "COUNT must be a positive number, not {}",
+            count.display()
+        ))
     })
+}
+
+fn number<T: FromStr>(text: &OsString) -> Option<T> {
+    text.to_str().and_then(|text| text.parse().ok())
+}
+
+fn standard_input() -> Result<Vec<u8>, Failure> {
+    let mut bytes = Vec::new();
+    io::stdin()
+        .lock()
+        .read_to_end(&mut bytes)
+        .map_err(|error| Failure::Work(format!("standard input: {error}")))?;
+    Ok(bytes)
 }
 
 fn print(bytes: &[u8]) -> Result<ExitCode, Failure> {
@@ -186,11 +239,14 @@ mod tests {
         let words = TempFile::new(words::listing().as_bytes()).unwrap();
         let programs = TempFile::new(programs::listing().as_bytes()).unwrap();
         let calls = TempFile::new(interp::listing().as_bytes()).unwrap();
+        let traces = TempFile::new(trace::listing().as_bytes()).unwrap();
         let wrong = [
             ("damage", &programs),
             ("damage-rows", &words),
             ("damage-calls", &words),
             ("damage-rows", &calls),
+            ("damage-trace", &calls),
+            ("damage-calls", &traces),
         ];
         for (command, file) in wrong {
             let text = failure(&[command, file.path().to_str().unwrap()]);

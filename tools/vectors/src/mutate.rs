@@ -162,13 +162,16 @@ mod tests {
     use crate::listing::{UNCOMPARED, WIDTH};
     use crate::programs;
     use crate::rowline::{expansion, PROGRAMS};
+    use crate::trace;
+    use crate::traceline::TRACES;
     use crate::words;
 
-    fn lists() -> [(ListKind, String); 3] {
+    fn lists() -> [(ListKind, String); 4] {
         [
             (WORDS, words::listing()),
             (PROGRAMS, programs::listing()),
             (CALLS, interp::listing()),
+            (TRACES, trace::listing()),
         ]
     }
 
@@ -246,6 +249,19 @@ mod tests {
         assert_eq!(line_around(b"ab\ncd", 1), 0..2);
         assert_eq!(line_around(b"ab\ncd", 2), 0..2);
         assert_eq!(line_around(b"ab\ncd", 4), 3..5);
+    }
+
+    #[test]
+    fn changes_of_traces_are_in_what_is_printed() {
+        let list = trace::listing();
+        let lines: Vec<&str> = list.lines().collect();
+        let parts = TRACES.parts(list.as_bytes());
+        let mut rng = Rng::new(SEED);
+        let drawn = (0..200).map(|_| draw(&TRACES, list.as_bytes(), &parts, &mut rng).line);
+        let drawn: Vec<&str> = drawn.map(|line| lines[line - 1]).collect();
+        assert!(drawn.iter().all(|line| line.starts_with("o ")));
+        let firsts = drawn.iter().filter(|line| line.split(',').count() <= 3);
+        assert!((20..180).contains(&firsts.count()));
     }
 
     #[test]

@@ -119,7 +119,7 @@ fn random() -> Vec<Vec<u32>> {
 }
 
 /// Any word, one of a known opcode, or a register shift.
-fn random_word(rng: &mut Rng) -> u32 {
+pub fn random_word(rng: &mut Rng) -> u32 {
     let word = rng.word();
     match rng.below(3) {
         0 => word,

@@ -1,8 +1,9 @@
-//! A temporary file that is removed when it goes out of use.
+//! A temporary file that is removed when it goes out of use, or kept.
 
 use std::env;
 use std::fs::{self, OpenOptions};
 use std::io::Write;
+use std::mem;
 use std::path::{Path, PathBuf};
 use std::process;
 use std::sync::atomic::{AtomicUsize, Ordering};
@@ -31,6 +32,13 @@ impl TempFile {
     pub fn path(&self) -> &Path {
         &self.0
     }
+
+    /// Leaves the file where it is.
+    pub fn keep(mut self) -> PathBuf {
+        let path = mem::take(&mut self.0);
+        mem::forget(self);
+        path
+    }
 }
 
 impl Drop for TempFile {
@@ -51,5 +59,12 @@ mod tests {
         assert_eq!(fs::read(&path).unwrap(), b"abc");
         drop(file);
         assert!(!path.exists());
+    }
+
+    #[test]
+    fn stays_if_it_is_kept() {
+        let path = TempFile::new(b"abc").unwrap().keep();
+        assert_eq!(fs::read(&path).unwrap(), b"abc");
+        fs::remove_file(path).unwrap();
     }
 }

@@ -24,7 +24,7 @@ fn list(name: &str) -> String {
 
 #[test]
 fn wrong_calls_show_the_usage() {
-    let calls: [&[&str]; 9] = [
+    let calls: [&[&str]; 14] = [
         &[],
         &["encode"],
         &["decode", "list"],
@@ -34,6 +34,11 @@ fn wrong_calls_show_the_usage() {
         &["interp", "list"],
         &["damage-calls"],
         &["mutate-calls", "true", "list", "0"],
+        &["trace", "list"],
+        &["damage-trace"],
+        &["mutate-trace", "true", "list", "0"],
+        &["answer-trace", "list"],
+        &["compare-trace", "true", "1"],
     ];
     for call in calls {
         let output = vectors(call);
@@ -74,20 +79,29 @@ fn a_program_that_accuses_the_good_list_fails() {
     assert!(message(&output).contains("names a line of the unchanged"));
 }
 
-/// The list of calls as the program makes it, in a file.
-#[test]
-fn lists_of_calls_are_made_damaged_and_tested() {
-    let listing = vectors(&["interp"]);
+/// A list as the program makes it, in a file; the letter that it begins with.
+fn made_damaged_and_tested([make, damage, mutate]: [&str; 3], letter: &[u8]) {
+    let listing = vectors(&[make]);
     assert_eq!(listing.status.code(), Some(0));
-    let path = format!("{}/calls", env!("CARGO_TARGET_TMPDIR"));
+    let path = format!("{}/{make}", env!("CARGO_TARGET_TMPDIR"));
     fs::write(&path, &listing.stdout).expect("a list is written");
 
-    let damaged = vectors(&["damage-calls", &path]);
+    let damaged = vectors(&[damage, &path]);
     assert_eq!(damaged.status.code(), Some(0), "{}", message(&damaged));
-    assert!(damaged.stdout.starts_with(b"l "));
+    assert!(damaged.stdout.starts_with(letter));
 
-    let output = vectors(&["mutate-calls", "true", &path, "3"]);
+    let output = vectors(&[mutate, "true", &path, "3"]);
     assert_eq!(output.status.code(), Some(1));
     let text = String::from_utf8_lossy(&output.stdout).into_owned();
     assert!(text.ends_with("3 mutations, 3 unnoticed\n"), "{text}");
+}
+
+#[test]
+fn lists_of_calls_are_made_damaged_and_tested() {
+    made_damaged_and_tested(["interp", "damage-calls", "mutate-calls"], b"l ");
+}
+
+#[test]
+fn lists_of_traces_are_made_damaged_and_tested() {
+    made_damaged_and_tested(["trace", "damage-trace", "mutate-trace"], b"i ");
 }

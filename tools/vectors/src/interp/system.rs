@@ -5,7 +5,7 @@ use crate::asm::addi;
 use crate::calllist::{padding, segment, CallList};
 use crate::words::{EBREAK, ECALL};
 
-const HALTING: [u32; 15] = [
+pub const HALTING: [u32; 15] = [
     ECALL,
     EBREAK,
     0x0ff0_000f, // fence iorw,iorw
