@@ -1,14 +1,15 @@
 // Runs a call and compares what it returns and writes. Each place of a record buffer holds a guard
 // word before a call; afterwards all places and the whole cursor are compared.
+use edges::GUARD;
+use edges::bit;
+use edges::number_of;
+use edges::say_differs;
+use edges::say_wrong;
 use interp::Answer;
 use interp::Cursor;
-use interp::Outcome;
 use report::say;
 use report::say_number;
 ghost use Prim.Native.Nat.{_≤_, _<_};
-
-// What a place holds before a call.
-const GUARD: u64 = 0xa5a5_a5a5_a5a5_a5a5;
 
 pub const PLACES: usize = 160;
 
@@ -36,56 +37,9 @@ fn call(kind: Kind, rows: &[u64], cursor: Cursor, n: u64, records: &mut [u64]) -
     }
 }
 
-fn number_of(outcome: Outcome) -> u64 {
-    match outcome {
-        Outcome::Accepted => 0,
-        Outcome::Refused(e) => e.number(),
-    }
-}
-
-// Says a number that is not the expected one, and answers whether it is.
-fn say_wrong(what: &[u8], want: u64, found: u64) -> bool {
-    if want == found {
-        return true;
-    }
-    say(b", WRONG ");
-    say(what);
-    say_number(found);
-    say(b", expected ");
-    say_number(want);
-    false
-}
-
-// The first place where two lists differ; the length of the first where there is none.
-fn differ_at(a: &[u64], b: &[u64]) -> usize {
-    let mut i = 0;
-    while i < a.len() {
-        if b.len() <= i {
-            return i;
-        }
-        if a[i] != b[i] {
-            return i;
-        }
-        i += 1;
-    }
-    i
-}
-
-// Says the first place where two lists differ, and answers whether there is none.
-fn say_differs(what: &[u8], want: &[u64], found: &[u64]) -> bool {
-    let at = differ_at(want, found);
-    if at < want.len() {
-        say(b", WRONG ");
-        say(what);
-        say_number(at as u64);
-        return false;
-    }
-    true
-}
-
 // It takes arrays, so that `check` does not have to prove their lengths.
 fn say_places(want: &Places, found: &Places) -> bool {
-    say_differs(b"place ", want, found)
+    say_differs(b"place ", want, GUARD, found)
 }
 
 fn say_cells(want: Cursor, found: Cursor) -> bool {
@@ -93,13 +47,9 @@ fn say_cells(want: Cursor, found: Cursor) -> bool {
     let found_regs = found.regs;
     let want_ram = want.ram;
     let found_ram = found.ram;
-    let regs = say_differs(b"register ", &want_regs, &found_regs);
-    let ram = say_differs(b"RAM word ", &want_ram, &found_ram);
+    let regs = say_differs(b"register ", &want_regs, 0, &found_regs);
+    let ram = say_differs(b"RAM word ", &want_ram, 0, &found_ram);
     regs && ram
-}
-
-fn bit(b: bool) -> u64 {
-    if b { 1 } else { 0 }
 }
 
 fn say_numbers(want: Cursor, found: Cursor) -> bool {

@@ -2,7 +2,6 @@
 // mistaken. A line has the number that a call returned and what was compared, with WRONG in front of
 // what differs. A right buffer holds the records and past them what it held before.
 mod compare;
-mod cursors;
 
 use compare::Kind;
 use compare::Record;
@@ -13,12 +12,12 @@ use compare::no_record;
 use compare::one;
 use compare::put;
 use compare::two;
-use cursors::at;
-use cursors::fresh;
-use cursors::halted;
-use cursors::marked;
-use cursors::with_cycles;
-use cursors::with_reg;
+use edges::at;
+use edges::fresh;
+use edges::halted;
+use edges::marked;
+use edges::with_cycles;
+use edges::with_reg;
 use interp::Cursor;
 ghost use Prim.Native.Nat.{_≤_};
 

@@ -1,18 +1,16 @@
-use mathlib.Core.Path.{_≡_}
 use Prim.Native.Nat.{_-_, _≤_}
-use lib.ListN.{length}
 use borrow.Author.Needs.{needs}
-use Rattle.interp_edges.proofs.cursors.marked_regs.Statement.{statement}
-use Rattle.interp_edges.proofs.cursors.marked_regs.Tie as tie
+use Rattle.execute_edges.proofs.compare.say_numbers.Statement.{statement}
+use Rattle.execute_edges.proofs.compare.say_numbers.Tie as tie
 
 abbrev Inv-loop : tie.InvT-loop
-Inv-loop regs₀ i₀ regs i = (i ≤ 64) × (length regs ≡ 64)
+Inv-loop want found i₀ i = i ≤ 8
 
 abbrev μ-loop : tie.MeasureT-loop
-μ-loop regs₀ i₀ regs i = 64 - i
+μ-loop want found i₀ i = 8 - i
 
-pub marked-regs-spec : {M : Type 1} → statement M
-marked-regs-spec =
+pub say-numbers-spec : {M : Type 1} → statement M
+say-numbers-spec =
     tie.close
     (tie.spec
     Inv-loop
@@ -21,6 +19,8 @@ marked-regs-spec =
     (λ c. search needs)
     (λ c. search needs)
     (λ c. search needs)
+    (λ c. search needs)
+    (λ c κs. search needs)
     (λ c. search needs)
     (λ c. search needs)
     (λ c. search needs)

@@ -2,8 +2,8 @@ use mathlib.Core.Path.{_≡_}
 use Prim.Native.Nat.{_-_, _≤_}
 use lib.ListN.{length}
 use borrow.Author.Needs.{needs}
-use Rattle.interp_edges.proofs.cursors.marked_ram.Statement.{statement}
-use Rattle.interp_edges.proofs.cursors.marked_ram.Tie as tie
+use Rattle.edges.proofs.marked_ram.Statement.{statement}
+use Rattle.edges.proofs.marked_ram.Tie as tie
 
 abbrev Inv-loop : tie.InvT-loop
 Inv-loop ram₀ i₀ ram i = (i ≤ 256) × (length ram ≡ 256)

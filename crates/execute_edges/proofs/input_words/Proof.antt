@@ -1,24 +1,22 @@
+use mathlib.Core.Path.{_≡_}
 use Prim.Native.Nat.{_-_, _≤_}
 use lib.ListN.{length}
 use borrow.Author.Needs.{needs}
-use Rattle.interp_edges.proofs.compare.differ_at.Statement.{statement}
-use Rattle.interp_edges.proofs.compare.differ_at.Tie as tie
+use Rattle.execute_edges.proofs.input_words.Statement.{statement}
+use Rattle.execute_edges.proofs.input_words.Tie as tie
 
 abbrev Inv-loop : tie.InvT-loop
-Inv-loop a b i₀ i = i ≤ length a
+Inv-loop words₀ i₀ words i = (i ≤ 300) × (length words ≡ 300)
 
 abbrev μ-loop : tie.MeasureT-loop
-μ-loop a b i₀ i = length a - i
+μ-loop words₀ i₀ words i = 300 - i
 
-pub differ-at-spec : {M : Type 1} → statement M
-differ-at-spec =
+pub input-words-spec : {M : Type 1} → statement M
+input-words-spec =
     tie.close
     (tie.spec
     Inv-loop
     μ-loop
-    (λ c. search needs)
-    (λ c. search needs)
-    (λ c. search needs)
     (λ c. search needs)
     (λ c. search needs)
     (λ c. search needs)

@@ -1,0 +1,151 @@
+// What the programs that run calls at their limits have in common: cursors, and words about what was
+// compared.
+use expand::MicroPc;
+use interp::Cursor;
+use interp::Outcome;
+use report::say;
+use report::say_number;
+
+// What a place of a record buffer holds before a call.
+pub const GUARD: u64 = 0xa5a5_a5a5_a5a5_a5a5;
+
+// ---- comparing
+
+pub fn number_of(outcome: Outcome) -> u64 {
+    match outcome {
+        Outcome::Accepted => 0,
+        Outcome::Refused(e) => e.number(),
+    }
+}
+
+pub fn bit(b: bool) -> u64 {
+    if b { 1 } else { 0 }
+}
+
+// Says a number that is not the expected one, and answers whether it is.
+pub fn say_wrong(what: &[u8], want: u64, found: u64) -> bool {
+    if want == found {
+        return true;
+    }
+    say(b", WRONG ");
+    say(what);
+    say_number(found);
+    say(b", expected ");
+    say_number(want);
+    false
+}
+
+// What place `i` holds of a list that goes on with `rest`.
+fn place(list: &[u64], rest: u64, i: usize) -> u64 {
+    if i < list.len() { list[i] } else { rest }
+}
+
+// The first place of `found` that does not hold what `want` has there, or `rest` past it; the length of
+// `found` where there is none.
+fn differ_at(want: &[u64], rest: u64, found: &[u64]) -> usize {
+    let mut i = 0;
+    while i < found.len() {
+        if found[i] != place(want, rest, i) {
+            return i;
+        }
+        i += 1;
+    }
+    i
+}
+
+// Says the first place where `found` is not `want` and then `rest`, and answers whether there is none.
+pub fn say_differs(what: &[u8], want: &[u64], rest: u64, found: &[u64]) -> bool {
+    let at = differ_at(want, rest, found);
+    if at < found.len() {
+        return say_place_wrong(what, at);
+    }
+    if found.len() < want.len() {
+        return say_place_wrong(what, at);
+    }
+    true
+}
+
+fn say_place_wrong(what: &[u8], at: usize) -> bool {
+    say(b", WRONG ");
+    say(what);
+    say_number(at as u64);
+    false
+}
+
+// ---- cursors
+
+pub fn fresh() -> Cursor {
+    let none = [0u64; 0];
+    Cursor::start(&none)
+}
+
+fn marked_regs() -> [u64; 64] {
+    let mut regs = [0u64; 64];
+    for i in 1..64 {
+        regs[i] = 30 + i as u64;
+    }
+    regs
+}
+
+fn marked_ram() -> [u64; 256] {
+    let mut ram = [0u64; 256];
+    for i in 0..256 {
+        ram[i] = 94 + i as u64;
+    }
+    ram
+}
+
+// A live cursor after 3 cycles with output 9, in which no two cells are the same: x5 is 35, x10 is
+// 40, cell 32 is 62 and RAM word 0 is 94.
+pub fn marked() -> Cursor {
+    let regs = marked_regs();
+    let ram = marked_ram();
+    Cursor {
+        regs,
+        ram,
+        micro_pc: MicroPc(0),
+        cycles: 3,
+        halted: false,
+        output: 9,
+        next_fetch: MicroPc(0),
+    }
+}
+
+pub fn at(cursor: Cursor, pc: usize, fetch: usize) -> Cursor {
+    let mut after = cursor;
+    let micro_pc = MicroPc(pc);
+    let next_fetch = MicroPc(fetch);
+    after.micro_pc = micro_pc;
+    after.next_fetch = next_fetch;
+    after
+}
+
+pub fn with_cycles(cursor: Cursor, cycles: u64) -> Cursor {
+    let mut after = cursor;
+    after.cycles = cycles;
+    after
+}
+
+// There is no cell past the last, and nothing to set.
+pub fn with_reg(cursor: Cursor, i: usize, value: u64) -> Cursor {
+    let mut after = cursor;
+    if i < Cursor::REGS {
+        after.regs[i] = value;
+    }
+    after
+}
+
+pub fn with_ram(cursor: Cursor, i: usize, value: u64) -> Cursor {
+    let mut after = cursor;
+    if i < Cursor::RAM_WORDS {
+        after.ram[i] = value;
+    }
+    after
+}
+
+pub fn halted(cursor: Cursor, output: u64) -> Cursor {
+    let mut after = cursor;
+    after.halted = true;
+    after.output = output;
+    after
+}
