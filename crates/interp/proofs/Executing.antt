@@ -1,7 +1,7 @@
 -- What is claimed of execute: the live count is the steps taken, and a larger limit changes nothing once the machine has
 -- halted. Assumes nothing.
 use mathlib.Core.Path.{_≡_, refl, ap, ap₂, sym, _∙_}
-use mathlib.Core.Bool.{Bool, true, false, cond}
+use mathlib.Core.Bool.{Bool, true, false}
 use mathlib.Core.List.{List, [], _∷_, _++_, append-assoc, append-nil}
 use Prim.Native.Nat.{ℕ, zero, suc, _+_, _-_, _*_, _^_, _≤_, _<_}
 use native.Mathlib.Nat.{zero-add}
@@ -13,7 +13,7 @@ use Rattle.interp.specs.declared.Cursor.{Cursor}
 use Rattle.interp.specs.Machine.{startOf, flat}
 use Rattle.interp.specs.Cycle.{commit, stepAt, live, frozenAt, padding, cycle}
 use Rattle.interp.specs.Calls.{recorded, end, segment, padded, amount, refusals, Answered, answerOf, counted, added, last, log}
-use Rattle.interp.specs.Execute.{liveCount, liveRecords, stoppedAt, nextPowerOfTwo, lengthLines, executeRefusals, executed, answered, executeOf, Steps, Counts, SameAnswer, Joined, ExecuteLaws}
+use Rattle.interp.specs.Execute.{liveCount, liveRecords, stoppedAt, nextPowerOfTwo, lengthLines, executeRefusals, executed, answered, executeOf, Counts, SameAnswer, Joined, ExecuteLaws}
 use Rattle.interp.proofs.Runs.{length-words}
 use Rattle.interp.proofs.Powers.{smallest}
 use Rattle.interp.proofs.Judged.{rows-accepted, fits-accepted, accepted-execution, accepted-answer, accepted-is}

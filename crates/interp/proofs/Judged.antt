@@ -14,7 +14,7 @@ use Rattle.interp.specs.declared.Refusal.the-variants.{NoRows, TooManyRo
 use Rattle.interp.specs.Machine.{startOf, flat}
 use Rattle.interp.specs.Code.{coreOf, Ready, stepOf, callOf}
 use Rattle.interp.specs.Calls.{recorded, end, Call, isSegment, amount, lent, turn, rowLines, callLines, refusals, refusalOf, settled, answerOf, numberOf}
-use Rattle.interp.specs.Execute.{nextPowerOfTwo, lengthLines, executeRefusals, Executed, executed, answered, executeOf}
+use Rattle.interp.specs.Execute.{nextPowerOfTwo, lengthLines, executeRefusals, executed, answered, executeOf}
 use Rattle.interp.proofs.Powers.{smallest}
 
 -- tests that hold together are equal

@@ -131,7 +131,7 @@ pub enum Refusal {
     NoExpansion,
     // 4: micro_pc or next_fetch is no row.
     OutsideRows,
-    // 5: cycles and length are over MAX_CYCLES together.
+    // 5: cycles and length are over MAX_CYCLES together, or max_cycles is over MAX_EXECUTED.
     TooManyCycles,
     // 6: the buffer has fewer than 17 words a record.
     Short,
@@ -164,7 +164,8 @@ pub struct Answer {
     pub cursor: Cursor,
 }
 
-// The answer of execute: how many cycles were live, how many records there are, and the cursor after padding.
+// The answer of execute: how many cycles were live, how many records there are, and the cursor after padding. If it is
+// refused, both counts are 0 and the cursor is the blank one.
 pub struct Execution {
     pub outcome: Outcome,
     pub live_count: u64,
@@ -1098,6 +1099,7 @@ fn judge_length(max_cycles: u64, room: usize) -> Outcome
     Outcome::Accepted
 }
 
+// Whether execute is accepted: its refusals, lowest number first.
 fn judge_execution(rows: &[u64], max_cycles: u64, room: usize) -> Outcome
     ensures { λ r. ⌜ outcomeNumber r ≡ lowest (executeRefusals (now (rows .entry)) «max_cycles» room) ⌝ }
 {
@@ -1134,8 +1136,8 @@ fn execution_of(rows: &[u64], cursor: Cursor, max_cycles: usize, records: &mut [
 }
 
 // Execute on a ROM: from the fresh cursor of the input, live cycles until the machine halts, at most max_cycles, and then
-// padding up to a power of two. A refused call leaves `records` as it was and hands back no cursor: the blank one stands
-// in the field.
+// padding up to a power of two. A refused call leaves `records` as it was and hands back no cursor: the blank one, fresh and
+// without input, stands in the field.
 pub fn execute(rows: &[u64], input: &[u64], max_cycles: u64, records: &mut [u64]) -> Execution
     ensures answer { λ r. ⌜ outcomeNumber (r .outcome) ≡ executeOf (now (rows .entry)) (now (input .entry)) «max_cycles» (now (records .entry)) .number ⌝ }
     ensures live { λ r. ⌜ r .«live_count» ≡ executeOf (now (rows .entry)) (now (input .entry)) «max_cycles» (now (records .entry)) .live ⌝ }

@@ -18,7 +18,7 @@ use Rattle.expand.proofs.Laws.{laws as expanded}
 use Rattle.interp.specs.declared.Refusal.{Refusal}
 use Rattle.interp.specs.Machine.{startOf}
 use Rattle.interp.specs.Calls.{numberOf}
-use Rattle.interp.specs.Execute.{liveCount, Executed, executed, answered, executeOf}
+use Rattle.interp.specs.Execute.{Executed, answered, executeOf}
 use Rattle.interp.proofs.Judged.{refused-not-0}
 use Rattle.interp.proofs.Executing.{execute-laws}
 use Rattle.lines.specs.Lines.{answerText, refusedText}

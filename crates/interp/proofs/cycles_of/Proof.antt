@@ -1,5 +1,5 @@
 -- `interp::cycles_of` meets its contract. Assumes nothing.
-use mathlib.Core.Path.{_≡_, refl, sym, _∙_}
+use mathlib.Core.Path.{_∙_}
 use mathlib.Core.Bool.{cond}
 use Prim.Native.Nat.{_≤_}
 use native.Mathlib.Omega.{arith}

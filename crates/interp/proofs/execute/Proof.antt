@@ -1,5 +1,5 @@
 -- `interp::execute` meets its contract. Assumes nothing.
-use mathlib.Core.Path.{_≡_, refl, ap, sym, _∙_}
+use mathlib.Core.Path.{refl, ap, sym, _∙_}
 use denote.Ref.{now}
 use lib.ListN.{length}
 use Rattle.interp.specs.Calls.{outcomeNumber}
