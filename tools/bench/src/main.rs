@@ -11,7 +11,9 @@ use std::env;
 use std::process::ExitCode;
 
 const USAGE: &str = "\
-usage: bench [--require] [ROUNDS]    --require: exit 1 also if the test's target is missed
+usage: bench [--require] [--slack=PERCENT] [ROUNDS]
+  --require: exit 1 also if the test's target is missed
+  --slack: exit 1 only if a target is missed by more than that
 ";
 const ROUNDS: usize = 20;
 const SEED: u64 = 0x4245_4e43;
@@ -65,11 +67,11 @@ fn main() -> ExitCode {
         eprintln!("bench: built with debug assertions, so times mean nothing: use --release");
         return ExitCode::from(2);
     }
-    let Some((require, rounds)) = options(env::args().skip(1)) else {
+    let Some(options) = Options::read(env::args().skip(1)) else {
         eprint!("{USAGE}");
         return ExitCode::from(2);
     };
-    match run(rounds).and_then(|missed| judge(missed, require)) {
+    match run(options.rounds).and_then(|missed| judge(missed, &options)) {
         Ok(()) => ExitCode::SUCCESS,
         Err(message) => {
             eprintln!("bench: {message}");
@@ -82,11 +84,24 @@ fn main() -> ExitCode {
 struct Missed {
     text: String,
     is_ratio: bool,
+    /// How much of the target was reached, in percent.
+    reached: f64,
 }
 
-/// An error if a target that counts was missed: a ratio, or any if required.
-fn judge(missed: Vec<Missed>, require: bool) -> Result<(), String> {
-    let counted = missed.iter().filter(|missed| missed.is_ratio || require);
+#[derive(Debug, PartialEq)]
+struct Options {
+    /// Whether targets other than ratios count too.
+    require: bool,
+    /// How far, in percent, a target may be missed.
+    slack: f64,
+    rounds: usize,
+}
+
+/// An error if a target that counts was missed by more than the slack.
+fn judge(missed: Vec<Missed>, options: &Options) -> Result<(), String> {
+    let counted = missed.iter().filter(|missed| {
+        (missed.is_ratio || options.require) && missed.reached < 100.0 - options.slack
+    });
     let texts: Vec<&str> = counted.map(|missed| missed.text.as_str()).collect();
     match texts.is_empty() {
         true => Ok(()),
@@ -94,16 +109,25 @@ fn judge(missed: Vec<Missed>, require: bool) -> Result<(), String> {
     }
 }
 
-/// Whether the targets are required, and how many rounds to run.
-fn options(arguments: impl Iterator<Item = String>) -> Option<(bool, usize)> {
-    let (mut require, mut rounds) = (false, ROUNDS);
-    for argument in arguments {
-        match argument.as_str() {
-            "--require" => require = true,
-            number => rounds = number.parse().ok().filter(|&number| number > 0)?,
+impl Options {
+    fn read(arguments: impl Iterator<Item = String>) -> Option<Options> {
+        let mut options = Options {
+            require: false,
+            slack: 0.0,
+            rounds: ROUNDS,
+        };
+        for argument in arguments {
+            if argument == "--require" {
+                options.require = true;
+            } else if let Some(percent) = argument.strip_prefix("--slack=") {
+                let percent: u32 = percent.parse().ok().filter(|&percent| percent < 100)?;
+                options.slack = percent.into();
+            } else {
+                options.rounds = argument.parse().ok().filter(|&number| number > 0)?;
+            }
         }
+        Some(options)
     }
-    Some((require, rounds))
 }
 
 /// Prints the tables and gives the targets that were missed.
@@ -200,7 +224,12 @@ fn state(name: &str, value: f64, target: &Target, missed: &mut Vec<Missed>) -> &
         return "ok";
     }
     let text = format!("{name}: {value:.2}, not {least}");
-    missed.push(Missed { text, is_ratio });
+    let reached = 100.0 * value / least;
+    missed.push(Missed {
+        text,
+        is_ratio,
+        reached,
+    });
     "missed"
 }
 
@@ -208,13 +237,23 @@ fn state(name: &str, value: f64, target: &Target, missed: &mut Vec<Missed>) -> &
 mod tests {
     use super::*;
 
+    fn parsed(text: &str) -> Option<Options> {
+        Options::read(text.split_whitespace().map(str::to_string))
+    }
+
     #[test]
     fn arguments() {
-        let parsed = |text: &str| options(text.split_whitespace().map(str::to_string));
-        assert_eq!(parsed(""), Some((false, ROUNDS)));
-        assert_eq!(parsed("3 --require"), Some((true, 3)));
-        assert_eq!(parsed("0"), None);
-        assert_eq!(parsed("--requires"), None);
+        let options = |require, slack, rounds| Options {
+            require,
+            slack,
+            rounds,
+        };
+        assert_eq!(parsed(""), Some(options(false, 0.0, ROUNDS)));
+        assert_eq!(parsed("3 --require"), Some(options(true, 0.0, 3)));
+        assert_eq!(parsed("--slack=25 5"), Some(options(false, 25.0, 5)));
+        for wrong in ["0", "--requires", "--slack", "--slack=100", "--slack=-1"] {
+            assert_eq!(parsed(wrong), None, "{wrong}");
+        }
     }
 
     fn missed(value: f64, target: &Target) -> Vec<Missed> {
@@ -226,17 +265,26 @@ mod tests {
 
     #[test]
     fn a_missed_ratio_always_counts() {
-        for require in [false, true] {
-            assert_eq!(judge(missed(2.0, &RATIO), require), Ok(()));
-            let judged = judge(missed(1.5, &RATIO), require);
+        for options in ["", "--require"] {
+            let options = parsed(options).unwrap();
+            assert_eq!(judge(missed(2.0, &RATIO), &options), Ok(()));
+            let judged = judge(missed(1.5, &RATIO), &options);
             assert_eq!(judged, Err("targets missed: a: 1.50, not 2".to_string()));
         }
     }
 
     #[test]
     fn a_missed_speed_counts_where_it_is_required() {
-        assert_eq!(judge(missed(1.0, &ROWS), true), Ok(()));
-        assert_eq!(judge(missed(0.5, &ROWS), false), Ok(()));
-        assert!(judge(missed(0.5, &ROWS), true).is_err());
+        let [free, required] = ["", "--require"].map(|text| parsed(text).unwrap());
+        assert_eq!(judge(missed(1.0, &ROWS), &required), Ok(()));
+        assert_eq!(judge(missed(0.5, &ROWS), &free), Ok(()));
+        assert!(judge(missed(0.5, &ROWS), &required).is_err());
+    }
+
+    #[test]
+    fn slack_is_a_part_of_the_target() {
+        let options = parsed("--slack=25").unwrap();
+        assert_eq!(judge(missed(1.51, &RATIO), &options), Ok(()));
+        assert!(judge(missed(1.49, &RATIO), &options).is_err());
     }
 }
