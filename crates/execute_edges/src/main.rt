@@ -19,7 +19,7 @@ const WE: u64 = 0x1_0000;
 
 const HLT: u64 = 0x800_0000;
 
-const LOAD: u64 = 0x445_0000;
+const LD: u64 = 0x445_0000;
 
 const STORE: u64 = 0x80_0800;
 
@@ -193,49 +193,13 @@ fn input_words() -> [u64; 300] {
     words
 }
 
-// ld x10,2040(x0) and ecall: RAM word 255 is the output, and ecall's record shows RAM word 0.
-fn loads(input: &[u64], ram: &[u64], first: u64, last: u64) {
+// ld x10,2040(x0) and ecall: RAM word 255, here z, is the output; ecall's record shows RAM word 0, a.
+fn loads(input: &[u64], ram: &[u64], a: u64, z: u64) {
     let rows = [0x7f80_3503, ECALL];
-    let load = [
-        0,
-        0,
-        0,
-        last,
-        0,
-        10,
-        255,
-        last,
-        0,
-        0,
-        0,
-        1,
-        0,
-        2040,
-        2040,
-        0,
-        LOAD,
-    ];
-    let halt = [
-        1,
-        last,
-        0,
-        last,
-        0,
-        32,
-        0,
-        first,
-        0,
-        0,
-        0,
-        1,
-        last,
-        0,
-        last,
-        0,
-        HLT,
-    ];
-    let want = [0, 2, 2, 1, 2, 1, last, 1];
-    let cells = [[10, last], [32, last]];
+    let load = [0, 0, 0, z, 0, 10, 255, z, 0, 0, 0, 1, 0, 2040, 2040, 0, LD];
+    let halt = [1, z, 0, z, 0, 32, 0, a, 0, 0, 0, 1, z, 0, z, 0, HLT];
+    let want = [0, 2, 2, 1, 2, 1, z, 1];
+    let cells = [[10, z], [32, z]];
     check(
         b"load",
         &rows,
@@ -249,14 +213,14 @@ fn loads(input: &[u64], ram: &[u64], first: u64, last: u64) {
 }
 
 // The first `n` of these words are the input, and the first `m` of them are RAM.
-fn loads_of(words: &[u64], n: usize, m: usize, first: u64, last: u64) {
+fn loads_of(words: &[u64], n: usize, m: usize, a: u64, z: u64) {
     if words.len() < n {
         return;
     }
     if words.len() < m {
         return;
     }
-    loads(&words[0..n], &words[0..m], first, last);
+    loads(&words[0..n], &words[0..m], a, z);
 }
 
 fn run_input() {
