@@ -53,7 +53,8 @@ redirect-lt rd h = cond-lt (eqb rd 0) (omega arith) (omega arith)
 pub sub-flag-lt : (raw : ℕ) → subFlag raw < 0x11
 sub-flag-lt raw = cond-lt (registerForm raw && alternate raw) (omega arith) (omega arith)
 
-alu-flags-lt : (f raw : ℕ) → aluFlags f raw < 0x1000
+-- those of an ALU row stay below is_store
+pub alu-flags-lt : (f raw : ℕ) → aluFlags f raw < 0x80
 unfolding aluFlags
 alu-flags-lt f raw =
     cond-lt (eqb f 0) (omega (arith, sub-flag-lt raw))
@@ -98,7 +99,7 @@ module _ (row : RomRow) (mp count : ℕ) (regs : List ℕ) (small : row .rd < 32
 
   alu-lawful : Lawful count (aluArm row (suc mp % count) regs)
   unfolding aluArm
-  alu-lawful = no-access to-lt (alu-flags-lt (row .funct3) (row .raw)) next-lt
+  alu-lawful = no-access to-lt (omega (arith, alu-flags-lt (row .funct3) (row .raw))) next-lt
 
   stage-lawful : (k : ℕ) → Lawful count (stageArm k row (suc mp % count) regs)
   unfolding stageArm stageEffect
