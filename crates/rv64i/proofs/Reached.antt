@@ -1,0 +1,87 @@
+-- What the agreement asks of a cursor is met, and its live cycles are those of a segment call. Assumes nothing.
+use mathlib.Core.Path.{_≡_, refl, ap, sym, _∙_}
+use mathlib.Core.Bool.{Bool, true, false, _&&_, false≢true}
+use mathlib.Core.List.{List, append-nil}
+use Prim.Native.Nat.{ℕ, suc, _%_, _^_, _<_}
+use native.Mathlib.Nat.{sub-self}
+use native.Mathlib.Omega.{arith}
+use lib.ListN.{length, getD, drop}
+use lib.Seq.{take-at}
+use lib.Dec.{eqb}
+use borrow.Author.Tests.{eqb-true}
+use Rattle.decode.specs.Manual as manual
+use Rattle.decode.specs.Manual.{OP}
+use Rattle.decode.specs.Decode.{decodeOf}
+use Rattle.decode.specs.Claims.{Word, numberOf}
+use Rattle.decode.specs.declared.Opcode.the-variants.{Invalid}
+use Rattle.decode.proofs.Laws.{laws as decoded}
+use Rattle.decode.proofs.Agrees.{agreement as encoded}
+use Rattle.expand.specs.Rows.{isRegShift, shifts}
+use Rattle.expand.specs.Expand.{rowsOf, expansionOf, startsOf}
+use Rattle.expand.proofs.Laws.{laws as expanded}
+use Rattle.interp.specs.declared.Cursor.{Cursor}
+use Rattle.interp.specs.Machine.{cell}
+use Rattle.interp.specs.Cycle.{live, cycle}
+use Rattle.interp.specs.Calls.{recorded, end}
+use Rattle.interp.specs.Execute.{liveCount}
+use Rattle.interp.proofs.Halting.{count-live, ran-end, ran-recorded}
+use Rattle.rv64i.specs.Agreement.{cycles, Typed, At, Premises}
+use Rattle.rv64i.proofs.Rows.{one-row}
+use Rattle.rv64i.proofs.SixRows.{six-live}
+use Rattle.rv64i.proofs.Typed.{fresh, live-kept, padding-kept}
+
+-- ---- the first row of a word of a program
+
+first-row : (program : List ℕ) (i : ℕ) (c : Cursor) → i < length program → c .«micro_pc» .0 ≡ getD (startsOf program) i 0
+    → cell (c .regs) 0 ≡ 0 → Typed c → At (expansionOf program) (getD program i 0) c
+first-row program i c l e z t =
+    let w = getD program i 0 in
+    record {
+      here = rw (e, expanded .at-start program i l) (take-at (rowsOf w) (expansionOf (drop (suc i) program)) (cycles w) refl);
+      zero = z;
+      typed = t;
+    }
+
+-- ---- the cycles of a word in a segment
+
+both : (a b : Bool) → (a && b) ≡ true → (a ≡ true) × (b ≡ true)
+both true b e = (refl, e)
+both false b e = absurd (false≢true e)
+
+-- a word of six rows has the opcode OP and the funct3 of a shift
+register-shift : (inst : ℕ) → inst < 2 ^ 32 → isRegShift inst ≡ true → Word OP inst × (shifts (manual.funct3 inst) ≡ true)
+unfolding isRegShift
+register-shift inst f e =
+    let p = both (eqb (numberOf (decodeOf inst .opcode)) 0x33) (shifts (decodeOf inst .funct3)) e in
+    let n : numberOf (decodeOf inst .opcode) ≡ 0x33 = eqb-true _ _ (p .0) in
+    let known : decodeOf inst .opcode ≡ Invalid → ⊥ = λ i. omega (arith, n, ap numberOf i) in
+    let o : inst % 2 ^ 7 ≡ 0x33 = decoded .number inst known ∙ n in
+    (record { fits = f; has = omega arith }, ap shifts (sym (encoded .funct3 inst)) ∙ p .1)
+
+counted : (rows : List ℕ) (inst : ℕ) (c : Cursor) → inst < 2 ^ 32 → At rows inst c → c .halted ≡ false → liveCount rows (cycles inst) c ≡ cycles inst
+unfolding liveCount
+counted rows inst c f h z = by (isRegShift inst) refl
+  where
+    by : (t : Bool) → isRegShift inst ≡ t → liveCount rows (cycles inst) c ≡ cycles inst
+    by true e = let p = register-shift inst f e in six-live rows inst c h (p .0) (p .1) z
+    by false e = let n = ap length (one-row inst e) in ap (λ (k : ℕ). liveCount rows k c) n ∙ count-live rows 0 c z ∙ sym n
+
+module _ (rows : List ℕ) (inst : ℕ) (c : Cursor) (f : inst < 2 ^ 32) (h : At rows inst c) (z : c .halted ≡ false) where
+  same-cursor : end (cycle rows) (cycles inst) c ≡ end (live rows) (cycles inst) c
+  unfolding end
+  same-cursor = sym (ran-end rows true (cycles inst) c) ∙ rw (counted rows inst c f h z, sub-self (cycles inst))
+
+  same-records : recorded (cycle rows) (cycles inst) c ≡ recorded (live rows) (cycles inst) c
+  unfolding recorded
+  same-records = sym (ran-recorded rows true (cycles inst) c) ∙ rw (counted rows inst c f h z, sub-self (cycles inst)) (append-nil _)
+
+pub premises : Premises
+premises =
+    record {
+      first-row = first-row;
+      fresh = fresh;
+      live-kept = live-kept;
+      padding-kept = padding-kept;
+      cursor = λ rows inst c f h z. same-cursor rows inst c f h z;
+      records = λ rows inst c f h z. same-records rows inst c f h z;
+    }

@@ -1,0 +1,226 @@
+-- A register shift over its six rows agrees with the manual. Assumes nothing.
+use mathlib.Core.Path.{_≡_, refl, ap, ap₂, sym, _∙_}
+use mathlib.Core.Bool.{true, false, cond}
+use mathlib.Core.List.{List}
+use Prim.Native.Nat.{ℕ, zero, suc, _+_, _-_, _%_, _^_, _<_}
+use native.Mathlib.Nat.{add-zero, mod-eq-of-lt}
+use native.Mathlib.Omega.{arith}
+use lib.ListN.{length, set}
+use lib.Seq.{set-getD, set-set, getD-set-same, getD-set-other}
+use lib.Dec.{eqb}
+use borrow.Author.Tests.{ne-eqb}
+use Rattle.decode.specs.Manual as manual
+use Rattle.decode.specs.Manual.{OP, rd, rs1, rs2}
+use Rattle.decode.specs.Decode.{decodeOf}
+use Rattle.decode.specs.Claims.{Word, classOf}
+use Rattle.decode.specs.declared.Inst.{Inst}
+use Rattle.expand.specs.Rows.{shifts, stageRow, rowAs, rowOfInst}
+use Rattle.expand.specs.Expand.{stages}
+use Rattle.expand.specs.declared.RomRow.{RomRow}
+use Rattle.values.specs.Values as values
+use Rattle.values.specs.Values.{shiftAt, stageValue}
+use Rattle.values.specs.Claims as turns
+use Rattle.values.proofs.Shifts.{one-stage, in-turn}
+use Rattle.interp.specs.declared.Cursor.{Cursor}
+use Rattle.interp.specs.declared.CycleRecord.{CycleRecord}
+use Rattle.interp.specs.Machine.{rowAt, at, cell}
+use Rattle.interp.specs.Cycle.{stageEffect, stageArm, armOf, recordOf, scratched, regsAfter, ramAfter, Step, commit, stepAt, live}
+use Rattle.interp.specs.Calls.{end}
+use Rattle.interp.specs.Execute.{liveCount}
+use Rattle.interp.proofs.Halting.{count-live}
+use Rattle.rv64i.specs.Manual.{reg, put, Shift, SLL, SRL, SRA, shift, IsShift, shift-value}
+use Rattle.rv64i.specs.Agreement.{bytes, stateOf, cycles, after, shown, At, Shifts}
+use Rattle.rv64i.proofs.Words.{signed-right-is}
+use Rattle.rv64i.proofs.Cells.{state, registers, cell-read, cell-write, past-0}
+use Rattle.rv64i.proofs.Rows.{fields, decoded-as, inside, row-at, op-shift, six-rows}
+use Rattle.rv64i.proofs.Alu.{funct7-of}
+
+-- ---- the value
+
+shift-agrees : (i : Shift) (inst a b : ℕ) → IsShift i inst → a < 2 ^ 64 → values.shift (manual.funct3 inst) inst a (b % 2 ^ 6) ≡ shift i .gives a b
+unfolding shiftAt
+shift-agrees SLL inst a b e h = rw (e .encoded .funct3)
+shift-agrees SRL inst a b e h = rw (e .encoded .funct3, funct7-of e)
+shift-agrees SRA inst a b e h = rw (e .encoded .funct3, funct7-of e) (signed-right-is a (b % 2 ^ 6) h)
+
+pub shifting : (i : Shift) → shifts (shift i .funct3) ≡ true
+shifting SLL = refl
+shifting SRL = refl
+shifting SRA = refl
+
+-- ---- what a stage leaves
+
+-- cell 0 gets the accumulator, cell 32 its own content
+kept : (regs : List ℕ) (x y : ℕ) → set (set (set regs 0 x) 0 y) 32 (cell (set regs 0 x) 32) ≡ set regs 0 y
+kept regs x y =
+    ap₂ (λ (cells : List ℕ) (n : ℕ). set cells 32 n) (set-set regs 0 x y)
+    (getD-set-other regs 0 32 x 0 (omega arith) ∙ sym (getD-set-other regs 0 32 y 0 (omega arith)))
+    ∙ set-getD (set regs 0 y) 32 0
+
+module _ (k : ℕ) (row : RomRow) (next v : ℕ) (regs ram : List ℕ) (early : k < 5) where
+  early-regs : regsAfter (stageEffect k row next v regs) regs ≡ set (set regs 0 v) 32 (cell regs 32)
+  unfolding stageEffect regsAfter scratched
+  early-regs = rw (ne-eqb k 5 (omega arith))
+
+  early-ram : ramAfter (stageEffect k row next v regs) ram ≡ ram
+  unfolding stageEffect ramAfter
+  early-ram = rw (ne-eqb k 5 (omega arith))
+
+  early-halts : stageEffect k row next v regs .halts ≡ false
+  unfolding stageEffect
+  early-halts = rw (ne-eqb k 5 (omega arith))
+
+  early-next : stageEffect k row next v regs .«next_pc» ≡ next
+  unfolding stageEffect
+  early-next = rw (ne-eqb k 5 (omega arith))
+
+-- ---- the six rows
+
+module _ (rows : List ℕ) (inst : ℕ) (c : Cursor) (h : At rows inst c) (w : Word OP inst) (s : shifts (manual.funct3 inst) ≡ true) where
+  six : cycles inst ≡ 6
+  six = ap length (six-rows inst (op-shift true inst w s))
+
+  -- the instruction, and the row of its stage k
+  abbrev decoded : Inst
+  decoded = fields (classOf OP inst) (decodeOf inst .imm) inst
+
+  stage-row : (k : ℕ) → k < 6 → rowAt rows (c .«micro_pc» .0 + k) ≡ stageRow decoded k
+  unfolding rowAs
+  stage-row k l =
+      row-at rows inst c h k (w .fits) (omega (arith, six))
+      ∙ ap (λ (d : Inst). rowOfInst d k) (decoded-as OP inst (decodeOf inst .imm) w refl) ∙ rw s
+
+  -- what a register holds
+  operand : (r : ℕ) → r < 32 → cell (c .regs) r ≡ reg r (stateOf c)
+  operand r l = cell-read (c .regs) (bytes (c .ram)) r l (h .zero)
+
+  -- the operands, and the accumulator after k stages
+  abbrev a : ℕ
+  a = cell (c .regs) (rs1 inst)
+
+  abbrev b : ℕ
+  b = cell (c .regs) (rs2 inst)
+
+  abbrev acc : ℕ → ℕ
+  acc k = values.shift (manual.funct3 inst) inst a (b % 2 ^ k)
+
+  -- a cursor before stage k, with x in cell 0
+  record Staged (k x : ℕ) (d : Cursor) : Type 0 where
+    pc : d .«micro_pc» .0 ≡ c .«micro_pc» .0 + k
+    regs : d .regs ≡ set (c .regs) 0 x
+    ram : d .ram ≡ c .ram
+
+  -- the value of a stage
+  abbrev staged : ℕ → Cursor → ℕ
+  staged k d = stageValue k (manual.funct3 inst) inst (cond (eqb k 0) (cell (d .regs) (rs1 inst)) (cell (d .regs) 0)) (cell (d .regs) (rs2 inst))
+
+  live-is : (k x : ℕ) (d : Cursor) → k < 6 → Staged k x d → live rows d ≡ stepAt (stageRow decoded k) (length rows) d
+  unfolding live
+  live-is k x d l g = ap (λ (r : RomRow). stepAt r (length rows) d) (ap (rowAt rows) (g .pc) ∙ stage-row k l)
+
+  on : (k x : ℕ) (d : Cursor) → k < 5 → Staged k x d → Staged (suc k) (staged k d) (live rows d .after)
+  unfolding stepAt armOf stageArm commit
+  on k x d l g =
+      let e = live-is k x d (omega arith) g in
+      let n = suc (d .«micro_pc» .0) % length rows in
+      record {
+        pc =
+            ap (λ (t : Step). t .after .«micro_pc» .0) e ∙ early-next k (stageRow decoded k) n (staged k d) (d .regs) (d .ram) l
+            ∙ mod-eq-of-lt (omega (arith, inside rows inst c h, six, g .pc)) ∙ omega (arith, g .pc);
+        regs =
+            ap (λ (t : Step). t .after .regs) e ∙ early-regs k (stageRow decoded k) n (staged k d) (d .regs) (d .ram) l
+            ∙ ap (λ (cells : List ℕ). set (set cells 0 (staged k d)) 32 (cell cells 32)) (g .regs) ∙ kept (c .regs) x (staged k d);
+        ram = ap (λ (t : Step). t .after .ram) e ∙ early-ram k (stageRow decoded k) n (staged k d) (d .regs) (d .ram) l ∙ g .ram;
+      }
+
+  begun : Staged 0 (cell (c .regs) 0) c
+  begun = record { pc = sym (add-zero (c .«micro_pc» .0)); regs = sym (set-getD (c .regs) 0 0); ram = refl }
+
+  -- ---- none of them halts
+
+  stage-live : (k x : ℕ) (d : Cursor) → k < 5 → Staged k x d → live rows d .after .halted ≡ false
+  unfolding stepAt armOf stageArm commit
+  stage-live k x d l g =
+      ap (λ (t : Step). t .after .halted) (live-is k x d (omega arith) g)
+      ∙ early-halts k (stageRow decoded k) (suc (d .«micro_pc» .0) % length rows) (staged k d) (d .regs) (d .ram) l
+
+  all-live : (n k x : ℕ) (d : Cursor) → k + n ≡ 6 → Staged k x d → d .halted ≡ false → liveCount rows n d ≡ n
+  unfolding liveCount
+  all-live zero k x d e g z = refl
+  all-live (suc zero) k x d e g z = count-live rows 0 d z
+  all-live (suc (suc n)) k x d e g z =
+      count-live rows (suc n) d z
+      ∙ ap suc (all-live (suc n) (suc k) (staged k d) (live rows d .after) (omega arith) (on k x d (omega arith) g) (stage-live k x d (omega arith) g))
+
+  pub six-live : c .halted ≡ false → liveCount rows (cycles inst) c ≡ cycles inst
+  six-live z = rw six (all-live 6 0 (cell (c .regs) 0) c refl begun z)
+
+  -- ---- the value, where rs2 is not x0
+
+  module _ (h2 : 0 < rs2 inst) where
+    -- a stage finds the accumulator in cell 0, and rs2 where it was
+    later-value : (k : ℕ) (d : Cursor) → 0 < k → k < 6 → Staged k (acc k) d → staged k d ≡ acc (suc k)
+    later-value k d p l g =
+        rw (ne-eqb k 0 (omega arith), g .regs, getD-set-same (c .regs) 0 (acc k) 0 (omega (arith, h .typed .regs)), getD-set-other (c .regs) 0 (rs2 inst) (acc k) 0 (omega arith))
+        (one-stage k (manual.funct3 inst) inst a b l)
+
+    -- the first takes the operand
+    first-value : staged 0 c ≡ acc 1
+    unfolding turns.stages
+    first-value = in-turn 0 (manual.funct3 inst) inst a b (omega arith)
+
+    first-stage : Staged 1 (acc 1) (live rows c .after)
+    first-stage = rw first-value at (on 0 (cell (c .regs) 0) c (omega arith) begun)
+
+    later-stage : (k : ℕ) (d : Cursor) → 0 < k → k < 5 → Staged k (acc k) d → Staged (suc k) (acc (suc k)) (live rows d .after)
+    later-stage k d p l g = rw (later-value k d p (omega arith) g) at (on k (acc k) d l g)
+
+    -- before the last stage
+    abbrev fifth : Cursor
+    fifth = end (live rows) 5 c
+
+    five : Staged 5 (acc 5) fifth
+    unfolding end
+    five =
+        later-stage 4 _ (omega arith) (omega arith)
+        (later-stage 3 _ (omega arith) (omega arith) (later-stage 2 _ (omega arith) (omega arith) (later-stage 1 _ (omega arith) (omega arith) first-stage)))
+
+    last-step : live rows fifth ≡ stepAt (stageRow decoded 5) (length rows) fifth
+    last-step = live-is 5 (acc 5) fifth (omega arith) five
+
+    cursor-is : after rows inst c ≡ stepAt (stageRow decoded 5) (length rows) fifth .after
+    unfolding end
+    cursor-is = ap (λ (k : ℕ). end (live rows) k c) six ∙ ap (λ (t : Step). t .after) last-step
+
+    record-is : shown rows inst c ≡ stepAt (stageRow decoded 5) (length rows) fifth .shown
+    record-is = ap (λ (k : ℕ). live rows (end (live rows) (k - 1) c) .shown) six ∙ ap (λ (t : Step). t .shown) last-step
+
+    -- registers past cell 0 and memory are as before the first stage
+    state-kept : stateOf fifth ≡ stateOf c
+    state-kept = ap₂ state (ap registers (five .regs) ∙ past-0 (c .regs) (acc 5)) (ap bytes (five .ram))
+
+    shifted : (v : ℕ) → acc 6 ≡ v → Shifts rows inst c v
+    unfolding live stepAt armOf stageArm stageEffect commit recordOf regsAfter scratched ramAfter
+    shifted v e =
+        let u : staged 5 fifth ≡ v = later-value 5 fifth (omega arith) (omega arith) five ∙ e in
+        record {
+          next = ap (λ (d : Cursor). d .«micro_pc») cursor-is ∙ ap (λ (n : ℕ). at (n % length rows)) (omega (arith, five .pc, six));
+          writes = record {
+            state =
+                ap stateOf cursor-is ∙ cell-write (fifth .regs) (bytes (fifth .ram)) (rd inst) (staged 5 fifth) (omega arith)
+                ∙ ap₂ (put (rd inst)) u state-kept;
+            rd = ap (λ (r : CycleRecord). r .rd) record-is;
+            rd-val = ap (λ (r : CycleRecord). r .«rd_val») record-is ∙ u;
+          };
+          rs1-val = ap (λ (t : Step). t .shown .«rs1_val») (live-is 0 (cell (c .regs) 0) c (omega arith) begun) ∙ operand (rs1 inst) (omega arith);
+          rs2-val =
+              ap (λ (r : CycleRecord). r .«rs2_val») record-is ∙ ap (λ (cells : List ℕ). cell cells (rs2 inst)) (five .regs)
+              ∙ getD-set-other (c .regs) 0 (rs2 inst) (acc 5) 0 (omega arith) ∙ operand (rs2 inst) (omega arith);
+          alu-out = ap (λ (r : CycleRecord). r .«alu_out») record-is ∙ u;
+        }
+
+    pub shifts-agree : (i : Shift) → IsShift i inst → Shifts rows inst c (shift-value i inst (stateOf c))
+    shifts-agree i e =
+        shifted (shift-value i inst (stateOf c))
+        (shift-agrees i inst a b e (h .typed .reg-words (rs1 inst))
+        ∙ ap₂ (shift i .gives) (operand (rs1 inst) (omega arith)) (operand (rs2 inst) (omega arith)))
