@@ -1,5 +1,6 @@
 // Takes a list of calls apart, line by line. A line is a letter and then numbers in lower-case
 // hexadecimal digits, without leading zeros and with a single space before each.
+use edges::CELLS;
 use text_lines::Next;
 use text_lines::Text;
 use text_lines::Unread;
@@ -119,6 +120,33 @@ fn line_of(bytes: &[u8]) -> Line {
         count,
         values,
     }
+}
+
+pub fn is_line(line: Line, letter: u8, count: usize) -> bool {
+    if line.letter == letter {
+        line.count == count
+    } else {
+        false
+    }
+}
+
+// The place of the cell that a line of `count` numbers names first, a register after the letter
+// `register` and a RAM word after `word`; CELLS where it names none.
+pub fn place_of(line: Line, register: u8, word: u8, count: usize) -> usize
+    ensures { λ r. ⌜ r ≤ 320 ⌝ }
+{
+    let i = line.values[0];
+    if is_line(line, register, count) {
+        if i < 64 {
+            return i as usize;
+        }
+    }
+    if is_line(line, word, count) {
+        if i < 256 {
+            return i as usize + 64;
+        }
+    }
+    CELLS
 }
 
 // Takes the next line of a file.

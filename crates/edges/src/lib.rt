@@ -1,5 +1,5 @@
-// What the programs that run calls at their limits have in common: cursors, and words about what was
-// compared.
+// What the programs that run calls and compare have in common: cursors, their cells, and words about
+// what was compared.
 use expand::MicroPc;
 use interp::Cursor;
 use interp::Outcome;
@@ -8,6 +8,12 @@ use report::say_number;
 
 // What a place of a record buffer holds before a call.
 pub const GUARD: u64 = 0xa5a5_a5a5_a5a5_a5a5;
+
+// The registers and the RAM of a cursor as one list of cells: register i at place i, RAM word i at
+// place 64 + i.
+pub const CELLS: usize = 320;
+
+pub type Cells = [u64; CELLS];
 
 // ---- comparing
 
@@ -72,7 +78,26 @@ fn say_place_wrong(what: &[u8], at: usize) -> bool {
     false
 }
 
+// The first `count` places; all of them, where there are no more.
+pub fn first_of(places: &[u64], count: usize) -> &[u64] {
+    if count < places.len() {
+        &places[0..count]
+    } else {
+        places
+    }
+}
+
 // ---- cursors
+
+pub fn cells_of(cursor: Cursor) -> Cells {
+    let regs = cursor.regs;
+    let ram = cursor.ram;
+    let mut cells = [0u64; CELLS];
+    for i in 0..CELLS {
+        cells[i] = if i < 64 { regs[i] } else { ram[i - 64] };
+    }
+    cells
+}
 
 pub fn fresh() -> Cursor {
     let none = [0u64; 0];
@@ -141,6 +166,13 @@ pub fn with_ram(cursor: Cursor, i: usize, value: u64) -> Cursor {
         after.ram[i] = value;
     }
     after
+}
+
+pub fn with_cell(cursor: Cursor, place: usize, value: u64) -> Cursor {
+    if place < Cursor::REGS {
+        return with_reg(cursor, place, value);
+    }
+    with_ram(cursor, place - Cursor::REGS, value)
 }
 
 pub fn halted(cursor: Cursor, output: u64) -> Cursor {

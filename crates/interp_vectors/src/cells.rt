@@ -1,25 +1,11 @@
-// The registers and the RAM of a cursor as one list of cells: register i at place i, RAM word i at
-// place 64 + i.
+// The cells of a cursor: what a fresh one has, and what differs.
 use crate::state::State;
-use crate::state::say_both;
-use interp::Cursor;
+use edges::CELLS;
+use edges::Cells;
 use report::say;
+use report::say_both;
 use report::say_number;
 use report::say_place;
-
-pub const CELLS: usize = 320;
-
-pub type Cells = [u64; CELLS];
-
-pub fn cells_of(cursor: Cursor) -> Cells {
-    let regs = cursor.regs;
-    let ram = cursor.ram;
-    let mut cells = [0u64; CELLS];
-    for i in 0..CELLS {
-        cells[i] = if i < 64 { regs[i] } else { ram[i - 64] };
-    }
-    cells
-}
 
 fn word_or_zero(words: &[u64], i: usize) -> u64 {
     if i < words.len() { words[i] } else { 0 }
@@ -45,7 +31,7 @@ fn say_cell(place: usize) {
 }
 
 pub fn wrong_cell(name: &[u8], state: State, place: usize, want: u64, found: u64) -> State {
-    say_place(name, state.lines);
+    say_place(name, state.counts.lines);
     say_cell(place);
     say_both(want, found);
     state.with_wrong()

@@ -18,25 +18,30 @@ mod cells;
 mod state;
 
 use calls::Line;
-use cells::CELLS;
-use cells::Cells;
-use cells::cells_of;
+use calls::is_line;
+use calls::place_of;
 use cells::check_cells;
 use cells::start_cells;
 use cells::wrong_cell;
+use edges::CELLS;
+use edges::Cells;
+use edges::GUARD;
+use edges::bit;
+use edges::cells_of;
+use edges::first_of;
+use edges::number_of;
 use expand::Expanded;
 use interp::Answer;
 use interp::Cursor;
-use interp::Outcome;
 use libc::STDERR_FILENO;
 use report::say;
+use report::say_both;
 use report::say_number;
 use report::say_place;
 use state::Phase;
 use state::State;
 use state::check_field;
 use state::give_up;
-use state::say_both;
 use state::say_total;
 use state::wrong;
 use text_lines::Next;
@@ -58,9 +63,6 @@ const MAX_RECORDS: usize = 512;
 const MAX_ROOM: u64 = 8744;
 
 const PLACES: usize = 8761;
-
-// What a place holds before a call.
-const GUARD: u64 = 0xa5a5_a5a5_a5a5_a5a5;
 
 // They are passed as arrays, so that no caller has to prove their lengths.
 type Program = [u32; MAX_WORDS];
@@ -167,14 +169,6 @@ fn list_line(name: &[u8], line: Line, run: Run) -> Run {
     }
 }
 
-fn is_line(line: Line, letter: u8, count: usize) -> bool {
-    if line.letter == letter {
-        line.count == count
-    } else {
-        false
-    }
-}
-
 fn expanded(name: &[u8], state: State, program: &[u32], rows: &mut Rows) -> State {
     let mut starts = [0u64; MAX_WORDS];
     match expand::expand_program(program, rows, &mut starts) {
@@ -232,15 +226,6 @@ fn input_line(name: &[u8], line: Line, run: Run, i: usize, input: &mut Input) ->
     }
 }
 
-// The first `count` places; all of them, where there are no more.
-fn rows_of(places: &[u64], count: usize) -> &[u64] {
-    if count < places.len() {
-        &places[0..count]
-    } else {
-        places
-    }
-}
-
 // Runs a call that is lent the first `room` places.
 fn call(
     letter: u8,
@@ -259,13 +244,6 @@ fn call(
     }
 }
 
-fn number_of(outcome: Outcome) -> u64 {
-    match outcome {
-        Outcome::Accepted => 0,
-        Outcome::Refused(e) => e.number(),
-    }
-}
-
 // The first place from `from` on that does not hold the guard word; PLACES where there is none.
 fn first_written(records: &Records, from: usize) -> usize {
     for i in from..PLACES {
@@ -281,7 +259,7 @@ fn check_kept(name: &[u8], state: State, records: &Records, from: usize) -> Stat
     let next = state.with_phase(Phase::Cursor);
     let at = first_written(records, from);
     if at < PLACES {
-        say_place(name, state.lines);
+        say_place(name, state.counts.lines);
         say(b"place ");
         say_number(at as u64);
         say(b" is past the records and not kept\n");
@@ -323,7 +301,7 @@ fn call_line(name: &[u8], line: Line, run: Run, rows: &Rows, records: &mut Recor
     *records = [GUARD; PLACES];
     let machine = run.machine;
     let want = machine.want;
-    let program = rows_of(rows, state.rows);
+    let program = first_of(rows, state.rows);
     let answer = call(line.letter, program, machine.cursor, n, records, room);
     let outcome = answer.outcome;
     let number = number_of(outcome);
@@ -352,7 +330,7 @@ fn check_record(name: &[u8], state: State, want: &[u64; 17], records: &Records, 
 {
     let at = first_wrong(want, records, 17 * i);
     if at < 17 {
-        say_place(name, state.lines);
+        say_place(name, state.counts.lines);
         say(b"record ");
         say_number(i as u64);
         say(b" word ");
@@ -388,7 +366,7 @@ fn cursor_line(name: &[u8], line: Line, run: Run) -> Run {
     let cursor = machine.cursor;
     let want = line.values;
     let pc = cursor.micro_pc.0 as u64;
-    let halted = if cursor.halted { 1 } else { 0 };
+    let halted = bit(cursor.halted);
     let fetch = cursor.next_fetch.0 as u64;
     let a = check_field(name, run.state, b"micro_pc", want[0], pc);
     let b = check_field(name, a, b"cycles", want[1], cursor.cycles);
@@ -396,22 +374,6 @@ fn cursor_line(name: &[u8], line: Line, run: Run) -> Run {
     let d = check_field(name, c, b"output", want[3], cursor.output);
     let e = check_field(name, d, b"next_fetch", want[4], fetch);
     run.with_state(e.with_phase(Phase::Cell(0)))
-}
-
-// The place of the cell that a line names; CELLS where it names none.
-fn place_of(line: Line) -> usize {
-    let i = line.values[0];
-    if is_line(line, b'g', 2) {
-        if i < 64 {
-            return i as usize;
-        }
-    }
-    if is_line(line, b'm', 2) {
-        if i < 256 {
-            return i as usize + 64;
-        }
-    }
-    CELLS
 }
 
 // Checks a cell that the list says is changed. It is compared again with the others after the call,
@@ -443,7 +405,7 @@ fn check_cell(name: &[u8], state: State, machine: Machine, place: usize, value: 
 
 fn cell_line(name: &[u8], line: Line, run: Run, from: usize) -> Run {
     let state = run.state;
-    let place = place_of(line);
+    let place = place_of(line, b'g', b'm', 2);
     if place >= CELLS {
         return stop(name, run, b"not a cell line");
     }

@@ -1,7 +1,10 @@
 // Where the replay of a file stands, and what it says.
-use libc::STDOUT_FILENO;
+use report::Counts;
+use report::one_more;
 use report::say;
-use report::say_number;
+use report::say_both;
+use report::say_count;
+use report::say_counts;
 use report::say_place;
 
 // What the next line is to be.
@@ -34,14 +37,7 @@ pub struct State {
     pub lists: u64,
     pub calls: u64,
     pub records: u64,
-    pub lines: u64,
-    pub passed: u64,
-    pub wrong: u64,
-}
-
-// The counts wrap, at a size that no file has.
-fn one_more(n: u64) -> u64 {
-    std::num::wrapping_add_u64(n, 1)
+    pub counts: Counts,
 }
 
 impl State {
@@ -55,13 +51,12 @@ impl State {
             lists: 0,
             calls: 0,
             records: 0,
-            lines: 0,
-            passed: 0,
-            wrong: 0,
+            counts: Counts::none(),
         }
     }
 
     pub fn with_phase(self, phase: Phase) -> State {
+        let counts = self.counts;
         State {
             phase,
             words: self.words,
@@ -71,25 +66,25 @@ impl State {
             lists: self.lists,
             calls: self.calls,
             records: self.records,
-            lines: self.lines,
-            passed: self.passed,
-            wrong: self.wrong,
+            counts,
         }
     }
 
-    pub fn with_line(mut self) -> State {
-        self.lines = one_more(self.lines);
+    pub fn with_counts(mut self, counts: Counts) -> State {
+        self.counts = counts;
         self
     }
 
-    pub fn with_passed(mut self) -> State {
-        self.passed = one_more(self.passed);
-        self
+    pub fn with_line(self) -> State {
+        self.with_counts(self.counts.with_line())
     }
 
-    pub fn with_wrong(mut self) -> State {
-        self.wrong = one_more(self.wrong);
-        self
+    pub fn with_passed(self) -> State {
+        self.with_counts(self.counts.with_passed())
+    }
+
+    pub fn with_wrong(self) -> State {
+        self.with_counts(self.counts.with_wrong())
     }
 
     // One list more, of which the rows are not known yet.
@@ -119,28 +114,18 @@ impl State {
     }
 }
 
-fn say_count(n: u64, what: &[u8]) {
-    say_number(n);
-    say(what);
-}
-
 pub fn say_total(name: &[u8], state: State) {
     say(name);
     say(b": ");
     say_count(state.lists, b" lists, ");
     say_count(state.calls, b" calls, ");
     say_count(state.records, b" records, ");
-    say_count(state.lines, b" lines, ");
-    say_count(state.passed, b" passed over, ");
-    say_count(state.wrong, b" wrong\n");
+    say_counts(state.counts);
 }
 
 // Says what is wrong with the last line.
 pub fn wrong(name: &[u8], state: State, what: &[u8]) -> State {
-    say_place(name, state.lines);
-    say(what);
-    say(b"\n");
-    state.with_wrong()
+    state.with_counts(report::wrong(name, state.counts, what))
 }
 
 // The same, where the rest of the list cannot be run.
@@ -148,27 +133,11 @@ pub fn give_up(name: &[u8], state: State, what: &[u8]) -> State {
     wrong(name, state, what).with_phase(Phase::List)
 }
 
-fn say_hex(n: u64) {
-    say(b"0x");
-    if !io::print_hex(STDOUT_FILENO, n, 1) {
-        os::fail(b"standard output");
-    }
-}
-
-// Ends a message that has said what differs.
-pub fn say_both(want: u64, found: u64) {
-    say(b": expected ");
-    say_hex(want);
-    say(b", found ");
-    say_hex(found);
-    say(b"\n");
-}
-
 pub fn check_field(name: &[u8], state: State, what: &[u8], want: u64, found: u64) -> State {
     if want == found {
         return state;
     }
-    say_place(name, state.lines);
+    say_place(name, state.counts.lines);
     say(what);
     say_both(want, found);
     state.with_wrong()

@@ -3,6 +3,43 @@
 use libc::STDOUT_FILENO;
 use listing::Tally;
 
+// The lines of a list that were taken, and those of them that were passed over and that are wrong.
+pub struct Counts {
+    pub lines: u64,
+    pub passed: u64,
+    pub wrong: u64,
+}
+
+// The counts wrap, at a size that no file has.
+pub fn one_more(n: u64) -> u64 {
+    std::num::wrapping_add_u64(n, 1)
+}
+
+impl Counts {
+    pub fn none() -> Counts {
+        Counts {
+            lines: 0,
+            passed: 0,
+            wrong: 0,
+        }
+    }
+
+    pub fn with_line(mut self) -> Counts {
+        self.lines = one_more(self.lines);
+        self
+    }
+
+    pub fn with_passed(mut self) -> Counts {
+        self.passed = one_more(self.passed);
+        self
+    }
+
+    pub fn with_wrong(mut self) -> Counts {
+        self.wrong = one_more(self.wrong);
+        self
+    }
+}
+
 pub fn say(text: &[u8]) {
     if !io::write_all(STDOUT_FILENO, text) {
         os::fail(b"standard output");
@@ -13,6 +50,27 @@ pub fn say_number(n: u64) {
     if !io::print_decimal(STDOUT_FILENO, n) {
         os::fail(b"standard output");
     }
+}
+
+// In hexadecimal digits, with zeros in front up to `width` of them.
+pub fn say_digits(n: u64, width: usize) {
+    if !io::print_hex(STDOUT_FILENO, n, width) {
+        os::fail(b"standard output");
+    }
+}
+
+pub fn say_hex(n: u64) {
+    say(b"0x");
+    say_digits(n, 1);
+}
+
+// Ends a message that has said what differs.
+pub fn say_both(want: u64, found: u64) {
+    say(b": expected ");
+    say_hex(want);
+    say(b", found ");
+    say_hex(found);
+    say(b"\n");
 }
 
 // It takes an array, so that no caller has to prove its length.
@@ -44,6 +102,26 @@ pub fn wrong_line(name: &[u8], tally: Tally, what: &[u8]) -> Tally {
     say(what);
     say(b"\n");
     wrong
+}
+
+// Says what is wrong with the last line that was taken.
+pub fn wrong(name: &[u8], counts: Counts, what: &[u8]) -> Counts {
+    say_place(name, counts.lines);
+    say(what);
+    say(b"\n");
+    counts.with_wrong()
+}
+
+pub fn say_count(n: u64, what: &[u8]) {
+    say_number(n);
+    say(what);
+}
+
+// Ends a line of totals.
+pub fn say_counts(counts: Counts) {
+    say_count(counts.lines, b" lines, ");
+    say_count(counts.passed, b" passed over, ");
+    say_count(counts.wrong, b" wrong\n");
 }
 
 pub fn say_tally(tally: Tally) {

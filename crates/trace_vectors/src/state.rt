@@ -1,6 +1,7 @@
 // Where the replay of a file stands, and what it says.
+use report::one_more;
 use report::say;
-use report::say_number;
+use report::say_count;
 use report::say_place;
 
 // The length of the made text, and the place in it where the next line begins; whether the case is
@@ -16,11 +17,6 @@ pub struct State {
     pub characters: u64,
     pub passed: u64,
     pub wrong: u64,
-}
-
-// The counts wrap, at a size that no file has.
-fn one_more(n: u64) -> u64 {
-    std::num::wrapping_add_u64(n, 1)
 }
 
 impl State {
@@ -83,11 +79,6 @@ impl State {
         self.given_up = true;
         self
     }
-}
-
-fn say_count(n: u64, what: &[u8]) {
-    say_number(n);
-    say(what);
 }
 
 pub fn say_total(name: &[u8], state: State) {

@@ -2,8 +2,8 @@ use mathlib.Core.Path.{_≡_}
 use Prim.Native.Nat.{_-_, _≤_}
 use lib.ListN.{length}
 use borrow.Author.Needs.{needs}
-use Rattle.interp_vectors.proofs.cells.cells_of.Statement.{statement}
-use Rattle.interp_vectors.proofs.cells.cells_of.Tie as tie
+use Rattle.edges.proofs.cells_of.Statement.{statement}
+use Rattle.edges.proofs.cells_of.Tie as tie
 
 abbrev Inv-loop : tie.InvT-loop
 Inv-loop regs ram cells₀ i₀ cells i =
