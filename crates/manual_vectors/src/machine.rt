@@ -1,0 +1,172 @@
+// The machine after a case, as values at places: its cells (crate `edges`), and behind them what else
+// a case can say.
+use edges::CELLS;
+use edges::Cells;
+use edges::bit;
+use edges::cells_of;
+use edges::first_of;
+use edges::number_of;
+use expand::Expanded;
+use interp::Answer;
+use interp::Cursor;
+use report::say;
+use report::say_hex;
+use report::say_number;
+
+// CELLS itself is no place.
+pub const TAKEN: usize = 321;
+
+pub const ROW: usize = 322;
+
+pub const HALTED: usize = 323;
+
+// The most words of a program and its rows, and the most cycles and the words of their records.
+pub const MAX_WORDS: usize = 8;
+
+const MAX_ROWS: usize = 48;
+
+pub const MAX_CYCLES: u64 = 64;
+
+const MAX_RECORD_WORDS: usize = 1088;
+
+// They are passed as arrays, so that no caller has to prove their lengths.
+pub type Program = [u32; MAX_WORDS];
+
+type Rows = [u64; MAX_ROWS];
+
+type Records = [u64; MAX_RECORD_WORDS];
+
+// `taken` is whether the program's last word, a branch, was taken, and NO_BRANCH where it is none;
+// `number` is that of the refusal, 0 where the program was run.
+pub struct Machine {
+    pub cells: Cells,
+    pub row: u64,
+    pub halted: u64,
+    pub taken: u64,
+    pub number: u64,
+}
+
+const NO_BRANCH: u64 = 2;
+
+impl Machine {
+    // All zero, and no branch.
+    pub fn fresh() -> Machine {
+        Machine {
+            cells: [0; CELLS],
+            row: 0,
+            halted: 0,
+            taken: NO_BRANCH,
+            number: 0,
+        }
+    }
+
+    pub fn at(self, place: usize) -> u64 {
+        if place < CELLS {
+            return self.cells[place];
+        }
+        match place {
+            TAKEN => self.taken,
+            ROW => self.row,
+            _ => self.halted,
+        }
+    }
+
+    // Of the places behind the cells only TAKEN is set.
+    pub fn with(mut self, place: usize, value: u64) -> Machine {
+        if place < CELLS {
+            self.cells[place] = value;
+        } else {
+            self.taken = value;
+        }
+        self
+    }
+}
+
+// Whether the manual's machine has a place, so that it is compared: not cell 0 and the recorder's own
+// registers, and rows are no addresses.
+pub fn is_manual(place: usize) -> bool {
+    if place < 32 {
+        return place != 0;
+    }
+    place >= 64 && place <= TAKEN && place != CELLS
+}
+
+fn say_cell(place: usize) {
+    if place < 32 {
+        say(b"x");
+        say_number(place as u64);
+    } else if place < 64 {
+        say(b"cell ");
+        say_number(place as u64);
+    } else {
+        say(b"word ");
+        say_number(place as u64 - 64);
+    }
+}
+
+pub fn say_name(place: usize) {
+    match place {
+        ROW => say(b"the next row"),
+        HALTED => say(b"halted"),
+        TAKEN => say(b"the branch (0 not taken, 1 taken, 2 none)"),
+        _ => say_cell(place),
+    }
+}
+
+// The first `count` words; all of them, where there are no more.
+pub fn words_of(program: &[u32], count: usize) -> &[u32] {
+    if count < program.len() {
+        &program[0..count]
+    } else {
+        program
+    }
+}
+
+// Expands a program. A refused one has no rows, and then the call is refused too.
+fn expanded(program: &[u32], rows: &mut Rows) -> usize {
+    let mut starts = [0u64; MAX_WORDS];
+    match expand::expand_program(program, rows, &mut starts) {
+        Expanded::Rows(n) => n,
+        Expanded::Refused(_) => 0,
+    }
+}
+
+fn called(rows: &Rows, count: usize, start: Cursor, cycles: u64, records: &mut Records) -> Answer {
+    interp::run_segment(first_of(rows, count), start, cycles, records)
+}
+
+// Bit 1 of the flags of the last record, where the last word is a branch.
+fn taken_of(program: &[u32], records: &Records, cycles: u64) -> u64 {
+    let n = program.len();
+    if n == 0 {
+        return NO_BRANCH;
+    }
+    if program[n - 1] % 0x80 != 0x63 {
+        return NO_BRANCH;
+    }
+    if cycles == 0 {
+        return NO_BRANCH;
+    }
+    if cycles > MAX_CYCLES {
+        return NO_BRANCH;
+    }
+    let last = 17 * cycles as usize - 1;
+    records[last] / 0x2_0000 % 2
+}
+
+// Runs a program for so many cycles.
+pub fn run(program: &[u32], start: Cursor, cycles: u64) -> Machine {
+    let mut rows = [0u64; MAX_ROWS];
+    let mut records = [0u64; MAX_RECORD_WORDS];
+    let count = expanded(program, &mut rows);
+    let answer = called(&rows, count, start, cycles, &mut records);
+    let outcome = answer.outcome;
+    let cursor = answer.cursor;
+    Machine {
+        cells: cells_of(cursor),
+        row: cursor.micro_pc.0 as u64,
+        halted: bit(cursor.halted),
+        taken: taken_of(program, &records, cycles),
+        number: number_of(outcome),
+    }
+}
