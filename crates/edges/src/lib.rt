@@ -42,7 +42,7 @@ pub fn say_wrong(what: &[u8], want: u64, found: u64) -> bool {
 }
 
 // What place `i` holds of a list that goes on with `rest`.
-fn place(list: &[u64], rest: u64, i: usize) -> u64 {
+pub fn place(list: &[u64], rest: u64, i: usize) -> u64 {
     if i < list.len() { list[i] } else { rest }
 }
 

@@ -2,15 +2,16 @@
 // a case can say.
 use edges::CELLS;
 use edges::Cells;
+use edges::GUARD;
 use edges::bit;
 use edges::cells_of;
 use edges::first_of;
-use edges::number_of;
+use edges::place;
 use expand::Expanded;
 use interp::Answer;
 use interp::Cursor;
+use interp::Outcome;
 use report::say;
-use report::say_hex;
 use report::say_number;
 
 // CELLS itself is no place.
@@ -36,14 +37,12 @@ type Rows = [u64; MAX_ROWS];
 
 type Records = [u64; MAX_RECORD_WORDS];
 
-// `taken` is whether the program's last word, a branch, was taken, and NO_BRANCH where it is none;
-// `number` is that of the refusal, 0 where the program was run.
+// `taken` is whether the program's last word, a branch, was taken, and NO_BRANCH where it is none.
 pub struct Machine {
     pub cells: Cells,
+    pub taken: u64,
     pub row: u64,
     pub halted: u64,
-    pub taken: u64,
-    pub number: u64,
 }
 
 const NO_BRANCH: u64 = 2;
@@ -53,10 +52,20 @@ impl Machine {
     pub fn fresh() -> Machine {
         Machine {
             cells: [0; CELLS],
+            taken: NO_BRANCH,
             row: 0,
             halted: 0,
-            taken: NO_BRANCH,
-            number: 0,
+        }
+    }
+
+    // What stands for the machine of a refused call, so that it agrees with no list. Within the limits
+    // above no call is refused.
+    fn refused() -> Machine {
+        Machine {
+            cells: [GUARD; CELLS],
+            taken: GUARD,
+            row: GUARD,
+            halted: GUARD,
         }
     }
 
@@ -131,12 +140,13 @@ fn expanded(program: &[u32], rows: &mut Rows) -> usize {
     }
 }
 
-fn called(rows: &Rows, count: usize, start: Cursor, cycles: u64, records: &mut Records) -> Answer {
-    interp::run_segment(first_of(rows, count), start, cycles, records)
+// It takes an array, so that `run` does not have to prove its length.
+fn called(rows: &Rows, count: usize, start: Cursor, last: u8, records: &mut Records) -> Answer {
+    interp::run_segment(first_of(rows, count), start, last as u64 + 1, records)
 }
 
-// Bit 1 of the flags of the last record, where the last word is a branch.
-fn taken_of(program: &[u32], records: &Records, cycles: u64) -> u64 {
+// Bit 1 of the last record's flags, word 16 div 2^16, where the last word of the program is a branch.
+fn taken_of(program: &[u32], records: &Records, last: u8) -> u64 {
     let n = program.len();
     if n == 0 {
         return NO_BRANCH;
@@ -144,29 +154,27 @@ fn taken_of(program: &[u32], records: &Records, cycles: u64) -> u64 {
     if program[n - 1] % 0x80 != 0x63 {
         return NO_BRANCH;
     }
-    if cycles == 0 {
-        return NO_BRANCH;
-    }
-    if cycles > MAX_CYCLES {
-        return NO_BRANCH;
-    }
-    let last = 17 * cycles as usize - 1;
-    records[last] / 0x2_0000 % 2
+    place(records, 0, 17 * last as usize + 16) / 0x2_0000 % 2
 }
 
-// Runs a program for so many cycles.
-pub fn run(program: &[u32], start: Cursor, cycles: u64) -> Machine {
+fn machine_of(cursor: Cursor, taken: u64) -> Machine {
+    Machine {
+        cells: cells_of(cursor),
+        taken,
+        row: cursor.micro_pc.0 as u64,
+        halted: bit(cursor.halted),
+    }
+}
+
+// Runs a program for the cycles 0 to `last`.
+pub fn run(program: &[u32], start: Cursor, last: u8) -> Machine {
     let mut rows = [0u64; MAX_ROWS];
     let mut records = [0u64; MAX_RECORD_WORDS];
     let count = expanded(program, &mut rows);
-    let answer = called(&rows, count, start, cycles, &mut records);
+    let answer = called(&rows, count, start, last, &mut records);
     let outcome = answer.outcome;
-    let cursor = answer.cursor;
-    Machine {
-        cells: cells_of(cursor),
-        row: cursor.micro_pc.0 as u64,
-        halted: bit(cursor.halted),
-        taken: taken_of(program, &records, cycles),
-        number: number_of(outcome),
+    match outcome {
+        Outcome::Accepted => machine_of(answer.cursor, taken_of(program, &records, last)),
+        Outcome::Refused(_) => Machine::refused(),
     }
 }

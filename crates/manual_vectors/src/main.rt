@@ -50,8 +50,8 @@ use machine::words_of;
 use report::say;
 use report::say_both;
 use report::say_digits;
-use report::say_hex;
 use report::say_place;
+use report::say_value;
 use state::Phase;
 use state::State;
 use state::give_up;
@@ -112,13 +112,8 @@ impl Run {
         let program = self.program;
         let state = self.state;
         let words = words_of(&program, state.words);
-        machine::run(words, self.start, state.cycles)
+        machine::run(words, self.start, state.last)
     }
-}
-
-// Says why a case is given up.
-fn stop(name: &[u8], run: Run, what: &[u8]) -> Run {
-    run.with_state(give_up(name, run.state, what))
 }
 
 // ---- comparing
@@ -151,14 +146,14 @@ fn end_case(name: &[u8], run: Run) -> State {
     let state = run.state;
     let phase = state.phase;
     match phase {
-        Phase::First | Phase::Passed | Phase::Done => state,
+        Phase::Word(_) => wrong(name, state, b"the case ends early"),
         Phase::Cell(_) => {
             if state.letter == b'a' {
                 return check_after(name, run);
             }
             wrong(name, state, b"the case ends early")
         }
-        Phase::Word(_) => wrong(name, state, b"the case ends early"),
+        _ => state,
     }
 }
 
@@ -192,8 +187,7 @@ fn say_cells(cells: &Cells) {
         if cells[i] != 0 {
             say_link(first);
             say_name(i);
-            say(b" ");
-            say_hex(cells[i]);
+            say_value(b" ", cells[i]);
             first = false;
         }
     }
@@ -204,12 +198,11 @@ fn say_manual(letter: u8, place: usize, manual: u64) {
         say(b", not defined in the manual\n");
         return;
     }
-    say(b", in the manual ");
     if place == ROW && manual == u64::MAX {
-        say(b"none");
-    } else {
-        say_hex(manual);
+        say(b", in the manual none\n");
+        return;
     }
+    say_value(b", in the manual ", manual);
     say(b"\n");
 }
 
@@ -221,12 +214,11 @@ fn say_difference(run: Run, said: Said) {
     say_cells(&cells);
     say(b": ");
     say_name(said.place);
-    say(b" is ");
-    say_hex(said.value);
+    say_value(b" is ", said.value);
     say_manual(state.letter, said.place, said.manual);
 }
 
-// ---- the lines
+// ---- the lines. Sums and casts wrap where `is_case` or `is_word` has excluded it.
 
 fn is_case(line: Line) -> bool {
     let words = line.values[0];
@@ -234,12 +226,13 @@ fn is_case(line: Line) -> bool {
     line.count == 2 && words > 0 && words <= MAX_WORDS as u64 && cycles > 0 && cycles <= MAX_CYCLES
 }
 
-fn case_line(name: &[u8], line: Line, state: State) -> Run {
-    let run = Run::none();
+fn case_line(line: Line, state: State) -> Run {
+    let run = Run::none().with_state(state);
     if !is_case(line) {
-        return run.with_state(give_up(name, state, b"not a case line"));
+        return run.with_phase(Phase::Odd);
     }
-    let next = state.with_case(line.letter, line.values[0] as usize, line.values[1]);
+    let last = std::num::wrapping_sub_u64(line.values[1], 1) % 0x100;
+    let next = state.with_case(line.letter, line.values[0] as usize, last as u8);
     run.with_state(next.with_phase(Phase::Word(0)))
 }
 
@@ -247,104 +240,98 @@ fn is_word(line: Line) -> bool {
     is_line(line, b'w', 1) && line.values[0] <= 0xffff_ffff
 }
 
-// Takes word `i` of the program. Whether a call is refused does not depend on registers and RAM, so
-// that is seen after the last word.
-fn word_line(name: &[u8], line: Line, run: Run, i: usize) -> Run {
+// Takes word `i` of the program.
+fn word_line(line: Line, run: Run, i: usize) -> Run {
     if !is_word(line) {
-        return stop(name, run, b"not a word line");
+        return run.with_phase(Phase::Odd);
     }
     let next = run.with_word(i, line.values[0]);
     let count = std::num::wrapping_add_usize(i, 1);
     if count < run.state.words {
         return next.with_phase(Phase::Word(count));
     }
-    if next.after().number != 0 {
-        return stop(name, run, b"the program is not run");
-    }
     next.with_phase(Phase::Cell(0))
 }
 
-// Takes a cell before the run. It is expected to stay.
-fn before_line(name: &[u8], line: Line, run: Run, from: usize) -> Run {
-    let place = place_of(line, b'x', b'm', 2);
-    let value = line.values[1];
-    if value == 0 || place < from || !is_manual(place) {
-        return stop(name, run, b"not a cell, or not in ascending order");
-    }
-    let program = run.program;
-    Run {
-        state: run.state.with_phase(Phase::Cell(place + 1)),
-        program,
-        start: with_cell(run.start, place, value),
-        want: run.want.with(place, value),
-    }
-}
-
-// How many numbers say the value.
-fn values_of(letter: u8) -> usize
-    ensures { λ r. ⌜ r ≤ 2 ⌝ }
-{
-    if letter == b'd' { 2 } else { 1 }
-}
-
 // The place of a result that is no cell; CELLS where it is none.
-fn other_place(line: Line, letter: u8) -> usize
-    ensures { λ r. ⌜ r ≤ 323 ⌝ }
-{
-    if letter == b'a' {
-        return if is_line(line, b't', 1) { TAKEN } else { CELLS };
+fn other_place(letter: u8) -> usize {
+    match letter {
+        b't' => TAKEN,
+        b'p' => ROW,
+        b'h' => HALTED,
+        _ => CELLS,
     }
-    if is_line(line, b'p', values_of(letter)) {
-        return ROW;
-    }
-    if is_line(line, b'h', values_of(letter)) {
-        return HALTED;
-    }
-    CELLS
 }
 
-fn said_of(line: Line, letter: u8) -> Said
-    ensures { λ r. ⌜ r .place ≤ 323 ⌝ }
+// What a result says, with so many numbers for the value.
+fn said_of(line: Line, numbers: usize) -> Said
+    requires { ⌜ numbers ≤ 2 ⌝ }
 {
-    let place = place_of(line, b'g', b'r', values_of(letter) + 1);
+    let values = line.values;
+    let place = place_of(line, b'g', b'r', numbers + 1);
     if place < CELLS {
         return Said {
             place,
-            value: line.values[1],
-            manual: line.values[2],
+            value: values[1],
+            manual: values[2],
         };
     }
     Said {
-        place: other_place(line, letter),
-        value: line.values[0],
-        manual: line.values[1],
+        place: if line.count == numbers {
+            other_place(line.letter)
+        } else {
+            CELLS
+        },
+        value: values[0],
+        manual: values[1],
     }
+}
+
+// Expects a value at a place. It has to come in order, and to change what was expected.
+fn expect(run: Run, order: usize, from: usize, said: Said) -> Run {
+    let mut next = run;
+    if order < from || !is_manual(said.place) || said.value == run.want.at(said.place) {
+        return run.with_phase(Phase::Odd);
+    }
+    let want = run.want.with(said.place, said.value);
+    next.want = want;
+    next.with_phase(Phase::Cell(std::num::wrapping_add_usize(order, 1)))
+}
+
+// Takes a cell before the run. It is expected to stay.
+fn before_line(line: Line, run: Run, from: usize) -> Run {
+    let place = place_of(line, b'x', b'm', 2);
+    let value = line.values[1];
+    let mut next = run;
+    let start = with_cell(run.start, place, value);
+    next.start = start;
+    expect(
+        next,
+        place,
+        from,
+        Said {
+            place,
+            value,
+            manual: 0,
+        },
+    )
 }
 
 // Takes a result of an agreeing case.
-fn agreeing_line(name: &[u8], line: Line, run: Run, from: usize) -> Run {
-    let said = said_of(line, b'a');
-    let order = AFTER + said.place;
-    if order < from || !is_manual(said.place) {
-        return stop(name, run, b"not a result, or not in ascending order");
-    }
-    if said.value == run.want.at(said.place) {
-        return stop(name, run, b"the value from before the run");
-    }
-    let mut next = run;
-    let want = run.want.with(said.place, said.value);
-    next.want = want;
-    next.with_phase(Phase::Cell(order + 1))
+fn agreeing_line(line: Line, run: Run, from: usize) -> Run {
+    let said = said_of(line, 1);
+    expect(
+        run,
+        std::num::wrapping_add_usize(AFTER, said.place),
+        from,
+        said,
+    )
 }
 
 // Checks the result of another case, and says it.
-fn other_line(name: &[u8], line: Line, run: Run) -> State {
+fn judge(name: &[u8], run: Run, said: Said) -> State {
     let state = run.state.with_phase(Phase::Done);
-    let said = said_of(line, state.letter);
     let found = run.after().at(said.place);
-    if said.place == CELLS {
-        return give_up(name, state, b"not a result");
-    }
     if said.value != found {
         return check_value(name, state, said.place, said.value, found);
     }
@@ -355,15 +342,33 @@ fn other_line(name: &[u8], line: Line, run: Run) -> State {
     state
 }
 
+// Takes the result of another case, with so many numbers for the value.
+fn other_line(name: &[u8], line: Line, run: Run, numbers: usize) -> Run
+    requires { ⌜ numbers ≤ 2 ⌝ }
+{
+    let said = said_of(line, numbers);
+    if said.place == CELLS || said.place == TAKEN {
+        return run.with_phase(Phase::Odd);
+    }
+    run.with_state(judge(name, run, said))
+}
+
+fn result_line(name: &[u8], line: Line, run: Run, from: usize) -> Run {
+    let letter = run.state.letter;
+    match letter {
+        b'a' => agreeing_line(line, run, from),
+        b'd' => other_line(name, line, run, 2),
+        _ => other_line(name, line, run, 1),
+    }
+}
+
 // Takes a line behind the words.
 fn cell_line(name: &[u8], line: Line, run: Run, from: usize) -> Run {
-    if line.letter == b'x' || line.letter == b'm' {
-        return before_line(name, line, run, from);
+    let letter = line.letter;
+    match letter {
+        b'x' | b'm' => before_line(line, run, from),
+        _ => result_line(name, line, run, from),
     }
-    if run.state.letter == b'a' {
-        return agreeing_line(name, line, run, from);
-    }
-    run.with_state(other_line(name, line, run))
 }
 
 // Takes a line that begins no case.
@@ -371,18 +376,29 @@ fn inner_line(name: &[u8], line: Line, run: Run) -> Run {
     let state = run.state;
     let phase = state.phase;
     match phase {
-        Phase::First | Phase::Done => stop(name, run, b"not a case line"),
         Phase::Passed => run.with_state(state.with_counts(state.counts.with_passed())),
-        Phase::Word(i) => word_line(name, line, run, i),
+        Phase::Word(i) => word_line(line, run, i),
         Phase::Cell(from) => cell_line(name, line, run, from),
+        _ => run.with_phase(Phase::Odd),
     }
 }
 
-fn check_line(name: &[u8], line: Line, run: Run) -> Run {
+fn any_line(name: &[u8], line: Line, run: Run) -> Run {
     let letter = line.letter;
     match letter {
-        b'a' | b'd' | b'u' => case_line(name, line, end_case(name, run).with_line()),
+        b'a' | b'd' | b'u' => case_line(line, end_case(name, run).with_line()),
         _ => inner_line(name, line, run.with_state(run.state.with_line())),
+    }
+}
+
+// Takes a line, and gives the case up where it cannot stand here.
+fn check_line(name: &[u8], line: Line, run: Run) -> Run {
+    let next = any_line(name, line, run);
+    let state = next.state;
+    let phase = state.phase;
+    match phase {
+        Phase::Odd => next.with_state(give_up(name, state)),
+        _ => next,
     }
 }
 

@@ -17,14 +17,16 @@ pub enum Phase {
     Cell(usize),
     // A case.
     Done,
+    // Nothing: the last line cannot stand where it does.
+    Odd,
 }
 
-// The head of the case, and the counts that the totals give.
+// The head of the case, whose cycles are 0 to `last`, and the counts that the totals give.
 pub struct State {
     pub phase: Phase,
     pub letter: u8,
     pub words: usize,
-    pub cycles: u64,
+    pub last: u8,
     pub agreeing: u64,
     pub differing: u64,
     pub undefined: u64,
@@ -37,7 +39,7 @@ impl State {
             phase: Phase::First,
             letter: 0,
             words: 0,
-            cycles: 0,
+            last: 0,
             agreeing: 0,
             differing: 0,
             undefined: 0,
@@ -51,7 +53,7 @@ impl State {
             phase,
             letter: self.letter,
             words: self.words,
-            cycles: self.cycles,
+            last: self.last,
             agreeing: self.agreeing,
             differing: self.differing,
             undefined: self.undefined,
@@ -69,10 +71,10 @@ impl State {
     }
 
     // One case more.
-    pub fn with_case(mut self, letter: u8, words: usize, cycles: u64) -> State {
+    pub fn with_case(mut self, letter: u8, words: usize, last: u8) -> State {
         self.letter = letter;
         self.words = words;
-        self.cycles = cycles;
+        self.last = last;
         match letter {
             b'a' => self.agreeing = one_more(self.agreeing),
             b'd' => self.differing = one_more(self.differing),
@@ -96,7 +98,8 @@ pub fn wrong(name: &[u8], state: State, what: &[u8]) -> State {
     state.with_counts(report::wrong(name, state.counts, what))
 }
 
-// The same, where the rest of the case cannot be run.
-pub fn give_up(name: &[u8], state: State, what: &[u8]) -> State {
-    wrong(name, state, what).with_phase(Phase::Passed)
+// The same of a line that ends the run of its case.
+pub fn give_up(name: &[u8], state: State) -> State {
+    let after = wrong(name, state, b"of another form, out of order, or no change");
+    after.with_phase(Phase::Passed)
 }

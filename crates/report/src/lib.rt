@@ -64,12 +64,15 @@ pub fn say_hex(n: u64) {
     say_digits(n, 1);
 }
 
+pub fn say_value(what: &[u8], n: u64) {
+    say(what);
+    say_hex(n);
+}
+
 // Ends a message that has said what differs.
 pub fn say_both(want: u64, found: u64) {
-    say(b": expected ");
-    say_hex(want);
-    say(b", found ");
-    say_hex(found);
+    say_value(b": expected ", want);
+    say_value(b", found ", found);
     say(b"\n");
 }
 
