@@ -26,6 +26,7 @@ mod programs;
 mod rowdamage;
 mod rowline;
 mod tempfile;
+mod tool;
 mod trace;
 mod tracedamage;
 mod traceline;

@@ -5,11 +5,13 @@ use crate::formwords;
 use crate::listing::{join, Line};
 use crate::operands;
 use crate::tempfile::TempFile;
-use std::io::ErrorKind;
-use std::process::Command;
+use crate::tool::{Tool, BINUTILS};
+use std::process::Stdio;
 
-const OBJDUMP: &str = "riscv64-linux-gnu-objdump";
-const PACKAGE: &str = "binutils-riscv64-linux-gnu";
+const OBJDUMP: Tool = Tool {
+    name: "riscv64-linux-gnu-objdump",
+    package: BINUTILS,
+};
 const ARGUMENTS: [&str; 8] = [
     "-b",
     "binary",
@@ -42,7 +44,8 @@ pub fn listing() -> Result<String, String> {
     let answers: Vec<Answer> = text.lines().filter_map(answer).collect();
     if answers.len() != words.len() {
         return Err(format!(
-            "{OBJDUMP} answered {} words of {}",
+            "{} answered {} words of {}",
+            OBJDUMP.name,
             answers.len(),
             words.len()
         ));
@@ -58,22 +61,9 @@ pub fn listing() -> Result<String, String> {
 
 fn disassemble(bytes: &[u8]) -> Result<String, String> {
     let file = TempFile::new(bytes)?;
-    let output = Command::new(OBJDUMP)
-        .args(ARGUMENTS)
-        .arg(file.path())
-        .env("LC_ALL", "C")
-        .output()
-        .map_err(|error| match error.kind() {
-            ErrorKind::NotFound => {
-                format!("{OBJDUMP} is not installed; the Debian package is {PACKAGE}")
-            }
-            _ => format!("{OBJDUMP}: {error}"),
-        })?;
-    if !output.status.success() {
-        let message = String::from_utf8_lossy(&output.stderr);
-        return Err(format!("{OBJDUMP}: {}: {message}", output.status));
-    }
-    String::from_utf8(output.stdout).map_err(|error| format!("{OBJDUMP}: {error}"))
+    let arguments = [&ARGUMENTS[..], &[file.text_path()?]].concat();
+    let output = OBJDUMP.output(&arguments, Stdio::null())?;
+    String::from_utf8(output).map_err(|error| format!("{}: {error}", OBJDUMP.name))
 }
 
 /// Splits `address:<tab>word<tab>mnemonic<tab>operands`. Lines without these
@@ -125,7 +115,7 @@ mod tests {
     use super::*;
     use crate::forms::FORMS;
     use crate::listing::{holds, STRIDE};
-    use std::io::{stderr, Write};
+    use crate::tool::unless_absent;
 
     const ADDI: &str = "   4:\t00500513          \taddi\tx10,x0,5 # 0x5";
 
@@ -172,13 +162,8 @@ mod tests {
     /// objdump and the unchanged Rust agree wherever a column is compared.
     #[test]
     fn agrees_with_the_source() {
-        let list = match listing() {
-            Err(message) if message.contains("not installed") => {
-                // Written past the test's capture, so that it is seen.
-                let _ = writeln!(stderr(), "skipped agrees_with_the_source: {message}");
-                return;
-            }
-            list => list.unwrap(),
+        let Some(list) = unless_absent("agrees_with_the_source", listing()) else {
+            return;
         };
         let differing: Vec<&str> = list
             .lines()

@@ -33,6 +33,13 @@ impl TempFile {
         &self.0
     }
 
+    /// The path as an argument of another program.
+    pub fn text_path(&self) -> Result<&str, String> {
+        self.0
+            .to_str()
+            .ok_or_else(|| format!("{}: the path is not UTF-8", self.0.display()))
+    }
+
     /// Leaves the file where it is.
     pub fn keep(mut self) -> PathBuf {
         let path = mem::take(&mut self.0);
