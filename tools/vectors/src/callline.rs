@@ -94,7 +94,7 @@ fn fields(cursor: &StreamCursor) -> [u64; 5] {
     ]
 }
 
-fn changes(letter: char, before: &[u64], after: &[u64]) -> String {
+pub fn changes(letter: char, before: &[u64], after: &[u64]) -> String {
     (0..)
         .zip(before.iter().zip(after))
         .filter(|(_, (before, after))| before != after)
@@ -102,7 +102,7 @@ fn changes(letter: char, before: &[u64], after: &[u64]) -> String {
         .collect()
 }
 
-fn line(letter: char, numbers: &[u64]) -> String {
+pub fn line(letter: char, numbers: &[u64]) -> String {
     let numbers = numbers.iter().map(|number| format!(" {number:x}"));
     format!("{letter}{}\n", numbers.collect::<String>())
 }
@@ -170,19 +170,28 @@ fn read_call(line: &[u8]) -> Option<Call> {
 /// The numbers of a line. How they are written is not looked at, because the
 /// line is compared with the right one afterwards.
 pub fn numbers<const N: usize>(letter: char, line: &[u8]) -> Option<[u64; N]> {
+    all_numbers(letter, line)?.try_into().ok()
+}
+
+/// The same, of a line of any length.
+pub fn all_numbers(letter: char, line: &[u8]) -> Option<Vec<u64>> {
     let text = str::from_utf8(line).ok()?.strip_suffix('\n')?;
     let numbers = text.strip_prefix(letter)?.strip_prefix(' ')?.split(' ');
-    let numbers: Option<Vec<u64>> = numbers
+    numbers
         .map(|number| u64::from_str_radix(number, 16).ok())
-        .collect();
-    numbers?.try_into().ok()
+        .collect()
 }
 
 /// Digits become other digits. Program and input words are left out: not every
 /// bit of them must come into a record.
 fn tries(line: &[u8], column: usize, to: u8) -> bool {
+    !matches!(line[0], b'w' | b'i') && is_digit_for_digit(line, column, to)
+}
+
+/// A digit becomes a digit; the letter of the line stays.
+pub fn is_digit_for_digit(line: &[u8], column: usize, to: u8) -> bool {
     let is_digit = |byte: u8| matches!(byte, b'0'..=b'9' | b'a'..=b'f');
-    !matches!(line[0], b'w' | b'i') && column > 0 && is_digit(line[column]) && is_digit(to)
+    column > 0 && is_digit(line[column]) && is_digit(to)
 }
 
 #[cfg(test)]

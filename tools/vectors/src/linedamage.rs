@@ -9,6 +9,8 @@ use std::str;
 pub enum Damage {
     /// Nothing: the part stays good.
     Keep,
+    /// Nothing, to a part that has such a line.
+    KeepWith(&'static str),
     /// The lowest bit of this number of a line, counted from one, is flipped.
     /// The numbers are hexadecimal and parted by spaces.
     Flip(&'static str, usize),
@@ -17,6 +19,8 @@ pub enum Damage {
     /// A line that is not the last is left out.
     Less(&'static str),
     Twice(&'static str),
+    /// A line changes places with the next.
+    Late(&'static str),
     /// A line, the second text, is put before.
     Before(&'static str, &'static str),
     /// This last line is added.
@@ -27,7 +31,7 @@ pub enum Damage {
     Cut,
 }
 
-use Damage::{Before, Cut, Flip, Keep, Last, Less, Short, Text, Twice};
+use Damage::{Before, Cut, Flip, Keep, KeepWith, Last, Late, Less, Short, Text, Twice};
 
 /// The damaged part; `None` where the damage cannot be done to this one, or
 /// would make it another right part.
@@ -38,6 +42,9 @@ pub fn apply(kind: &ListKind, damage: Damage, part: &[u8]) -> Option<Vec<u8>> {
     let first = |beginning| lines.iter().position(|line| line.starts_with(beginning));
     match damage {
         Keep => {}
+        KeepWith(beginning) => {
+            first(beginning)?;
+        }
         Flip(beginning, number) => {
             let place = first(beginning)?;
             lines[place] = flipped(&lines[place], number)?;
@@ -55,6 +62,10 @@ pub fn apply(kind: &ListKind, damage: Damage, part: &[u8]) -> Option<Vec<u8>> {
             let place = first(beginning)?;
             lines.insert(place, lines[place].clone());
         }
+        Late(beginning) => {
+            let place = first(beginning).filter(|&place| place != last)?;
+            lines.swap(place, place + 1);
+        }
         Before(beginning, line) => {
             let place = first(beginning)?;
             lines.insert(place, line.to_string());
@@ -70,7 +81,7 @@ pub fn apply(kind: &ListKind, damage: Damage, part: &[u8]) -> Option<Vec<u8>> {
     }
     let changed = lines.concat().into_bytes();
     let right = (kind.first_wrong)(&changed).is_none();
-    (right == matches!(damage, Keep)).then_some(changed)
+    (right == matches!(damage, Keep | KeepWith(_))).then_some(changed)
 }
 
 /// The line with the lowest bit of one of its numbers flipped.

@@ -1,6 +1,6 @@
 //! Makes and tests the lists of decoded words, of expanded programs, of segment
-//! and padding calls and of traces that the port is compared with, and compares
-//! the program `trace` on random inputs.
+//! and padding calls, of traces and of cases about the manual that the port is
+//! compared with, and compares the program `trace` on random inputs.
 
 mod answer;
 mod asm;
@@ -17,6 +17,7 @@ mod interp;
 mod linedamage;
 mod list;
 mod listing;
+mod manual;
 mod mixed;
 mod mutate;
 mod objdump;
@@ -35,6 +36,7 @@ mod wordset;
 
 use callline::CALLS;
 use list::{ListKind, WORDS};
+use manual::MANUAL;
 use rowline::PROGRAMS;
 use std::env;
 use std::ffi::OsString;
@@ -58,10 +60,14 @@ usage: vectors decode                            list the unchanged Rust's answe
        vectors trace                             list what the program trace must print
        vectors damage-trace FILE                 as damage, for a list of traces
        vectors mutate-trace PROGRAM FILE COUNT   as mutate, for a list of traces
+       vectors qemu                              list qemu's results of single instructions
+       vectors differences                       list where source and manual part
+       vectors damage-manual FILE FILE           as damage, from the two lists above
+       vectors mutate-manual PROGRAM FILE COUNT  as mutate, for one of them
        vectors answer-trace                      print what trace must print for standard input
        vectors compare-trace PROGRAM COUNT SEED  compare PROGRAM with trace on random inputs
 ";
-const COMMANDS: [&str; 15] = [
+const COMMANDS: [&str; 19] = [
     "decode",
     "objdump",
     "damage",
@@ -75,6 +81,10 @@ const COMMANDS: [&str; 15] = [
     "trace",
     "damage-trace",
     "mutate-trace",
+    "qemu",
+    "differences",
+    "damage-manual",
+    "mutate-manual",
     "answer-trace",
     "compare-trace",
 ];
@@ -132,6 +142,14 @@ fn run(arguments: &[OsString]) -> Result<ExitCode, Failure> {
             print(&tracedamage::listing(&TRACES.read(Path::new(file))?)?)
         }
         (Some("mutate-trace"), [program, file, count]) => mutations(&TRACES, program, file, count),
+        (Some("qemu"), []) => print(manual::agreeing_listing()?.as_bytes()),
+        (Some("differences"), []) => print(manual::differing_listing()?.as_bytes()),
+        (Some("damage-manual"), [agreeing, differing]) => {
+            let mut list = MANUAL.read(Path::new(agreeing))?;
+            list.extend(MANUAL.read(Path::new(differing))?);
+            print(&manual::damaged_listing(&list)?)
+        }
+        (Some("mutate-manual"), [program, file, count]) => mutations(&MANUAL, program, file, count),
         (Some("answer-trace"), []) => print(&answer::answer(&standard_input()?)),
         (Some("compare-trace"), [program, count, seed]) => comparison(program, count, seed),
         (Some(known), _) if COMMANDS.contains(&known) => Err(Failure::Call(format!(
