@@ -7,6 +7,8 @@ mod damage;
 mod differing;
 mod line;
 mod qemu;
+#[cfg(test)]
+mod told;
 
 pub use agreeing::listing as agreeing_listing;
 pub use damage::listing as damaged_listing;

@@ -8,7 +8,7 @@ mod claims;
 mod memory;
 mod shifts;
 
-use super::case::{case, Case};
+use super::case::{case, Case, State};
 use super::line::agreeing;
 use super::qemu;
 
@@ -33,11 +33,33 @@ const MIXED: [u64; 3] = [
 /// What a destination holds before: if it were not written, that would show.
 const STALE: u64 = 0x5a5a_5a5a_a5a5_a5a5;
 
+/// The opcodes that have no destination.
+const STORE: u32 = 0x23;
+const BRANCH: u32 = 0x63;
+
 pub fn listing() -> Result<String, String> {
     let cases = cases();
     let states = qemu::run(&cases)?;
-    let lines = cases.iter().zip(&states);
-    Ok(lines.map(|(case, state)| agreeing(case, state)).collect())
+    let lines = cases.iter().zip(&states).map(|(case, state)| {
+        check(case, state)?;
+        Ok(agreeing(case, state))
+    });
+    lines.collect()
+}
+
+/// An instruction changes no register but its destination.
+fn check(case: &Case, state: &State) -> Result<(), String> {
+    let word = case.words[0];
+    let destination = match word & 0x7f {
+        STORE | BRANCH => 0,
+        _ => (word >> 7 & 0x1f) as usize,
+    };
+    let mut expected = case.registers();
+    expected[destination] = state.registers[destination];
+    match expected == state.registers {
+        true => Ok(()),
+        false => Err(format!("qemu changed another register: {case:x?}")),
+    }
 }
 
 fn cases() -> Vec<Case> {

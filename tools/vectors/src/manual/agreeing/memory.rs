@@ -30,7 +30,7 @@ enum Way {
 
 use Way::{By, HighBy, Zero};
 
-const WAYS: [Way; 9] = [
+const WAYS: [Way; 10] = [
     Zero,
     By(0),
     By(2047),
@@ -40,26 +40,51 @@ const WAYS: [Way; 9] = [
     HighBy(-2048),
     HighBy(2047),
     By(8),
+    By(-8),
 ];
+
+const LEAST_PLACES: usize = 70;
 
 pub fn cases() -> Vec<Case> {
     let loads = LOADS.into_iter().flat_map(|(funct3, offsets)| {
-        let places = places(offsets).zip(values().cycle());
-        let loads = (0..).zip(places).map(move |(number, (place, value))| {
-            let [d, base, _] = registers(number);
-            place.load(funct3, [d, base], value)
-        });
-        loads.chain(load_coincidences(funct3))
+        let coincidences = coincidences(|registers| load(funct3, registers, 8));
+        loads(funct3, offsets).chain(coincidences)
     });
     let stores = STORES.into_iter().flat_map(|(funct3, offsets)| {
-        let places = places(offsets).zip(values().cycle());
-        let stores = (0..).zip(places).map(move |(number, (place, value))| {
-            let [_, base, source] = registers(number);
-            place.store(funct3, [source, base], value)
-        });
-        stores.chain(store_coincidences(funct3))
+        let coincidences = coincidences(|registers| store(funct3, registers, 8));
+        stores(funct3, offsets).chain(coincidences)
     });
     loads.chain(stores).collect()
+}
+
+/// Doublewords are boundaries, parts of them are bytes of both kinds.
+fn loads(funct3: u32, offsets: u64) -> impl Iterator<Item = Case> {
+    let places = (0..).zip(places(offsets).zip(values().cycle()));
+    places.map(move |(number, (place, value))| {
+        let [d, base, _] = registers(number);
+        let content = match funct3 {
+            3 => value,
+            _ => CONTENTS[number % 2],
+        };
+        let word = |base, imm| load(funct3, [d, base], imm);
+        place.case(word, base, (d, STALE), content)
+    })
+}
+
+fn stores(funct3: u32, offsets: u64) -> impl Iterator<Item = Case> {
+    let places = (0..).zip(places(offsets).zip(values().cycle()));
+    places.map(move |(number, (place, value))| {
+        let [_, base, source] = registers(number);
+        let word = |base, imm| store(funct3, [source, base], imm);
+        place.case(word, base, (source, value), CONTENTS[0])
+    })
+}
+
+/// What is loaded or stored is the base or x0, and the base is x0. The immediate
+/// is 8.
+fn coincidences(word: impl Fn([u32; 2]) -> u32) -> [Case; 3] {
+    let ram = [(1, CONTENTS[0]), (0xfe, CONTENTS[1])];
+    [[5, 5], [0, 5], [0, 0]].map(|registers| case(&[word(registers)], &[(5, 0x7e8)], &ram))
 }
 
 /// An address and how it is put together.
@@ -70,10 +95,11 @@ struct Place {
     way: Way,
 }
 
-/// Every offset in every way, and each at another word. Forms of one offset have
-/// every word in every way.
+/// Every offset in every way, and each at another word. Forms of few offsets have
+/// them several times, so that every register is a base, and forms of one have it
+/// at every word.
 fn places(offsets: u64) -> impl Iterator<Item = Place> {
-    let rounds = if offsets == 1 { WORDS.len() } else { 1 };
+    let rounds = LEAST_PLACES.div_ceil(WAYS.len() * offsets as usize);
     (0..rounds).flat_map(move |round| {
         (0..offsets).flat_map(move |offset| {
             (0..).zip(WAYS).map(move |(number, way)| {
@@ -95,73 +121,35 @@ impl Place {
         }
     }
 
-    fn load(self, funct3: u32, [d, base]: [u32; 2], value: u64) -> Case {
+    /// The case of a word with this base and this other register.
+    fn case(
+        self,
+        word: impl Fn(u32, i64) -> u32,
+        base: u32,
+        other: (u32, u64),
+        content: u64,
+    ) -> Case {
         let (buffer, from, imm) = self.parts();
-        let base = if matches!(self.way, Zero) { 0 } else { base };
-        // Doublewords are boundaries, parts of them are bytes of every kind.
-        let content = if funct3 == 3 {
-            value
-        } else {
-            CONTENTS[(value & 1) as usize]
+        let base = match self.way {
+            Zero => 0,
+            _ => base,
         };
+        let registers = [(base, from), other];
         Case {
             buffer,
-            ..case(
-                &[load(funct3, [d, base], imm)],
-                &[(base, from), (d, STALE)],
-                &self.ram(content),
-            )
-        }
-    }
-
-    fn store(self, funct3: u32, [source, base]: [u32; 2], value: u64) -> Case {
-        let (buffer, from, imm) = self.parts();
-        let base = if matches!(self.way, Zero) { 0 } else { base };
-        let before = [(base, from), (source, value)];
-        Case {
-            buffer,
-            ..case(
-                &[store(funct3, [source, base], imm)],
-                &before,
-                &self.ram(CONTENTS[0]),
-            )
+            ..case(&[word(base, imm)], &registers, &self.ram(content))
         }
     }
 
     /// The word and those beside it.
     fn ram(self, content: u64) -> Vec<(u64, u64)> {
-        let beside = [self.word.checked_sub(1), Some(self.word + 1)];
-        let beside = beside
-            .into_iter()
-            .flatten()
-            .filter(|&word| word < RAM_WORDS as u64);
-        let beside = beside.map(|word| (word, BESIDE));
-        beside.chain([(self.word, content)]).collect()
+        let beside = [self.word.wrapping_sub(1), self.word + 1].map(|word| (word, BESIDE));
+        let mut ram = vec![(self.word, content)];
+        ram.extend(
+            beside
+                .into_iter()
+                .filter(|&(word, _)| word < RAM_WORDS as u64),
+        );
+        ram
     }
-}
-
-/// The destination is the base or x0, and the base is x0.
-fn load_coincidences(funct3: u32) -> impl Iterator<Item = Case> {
-    let registers = [[5, 5], [0, 5], [0, 0]];
-    registers.into_iter().map(move |registers| {
-        let before = [(5, 8)];
-        case(
-            &[load(funct3, registers, 8)],
-            &before,
-            &[(1, CONTENTS[0]), (2, CONTENTS[1])],
-        )
-    })
-}
-
-/// What is stored is the base or x0, and the base is x0.
-fn store_coincidences(funct3: u32) -> impl Iterator<Item = Case> {
-    let registers = [[5, 5], [0, 5], [0, 0]];
-    registers.into_iter().map(move |registers| {
-        let before = [(5, 0x7e8)];
-        case(
-            &[store(funct3, registers, 8)],
-            &before,
-            &[(1, CONTENTS[0]), (0xfe, CONTENTS[0])],
-        )
-    })
 }
