@@ -274,6 +274,19 @@ mod tests {
     }
 
     #[test]
+    fn cases_about_the_manual_are_read_from_two_lists() {
+        let traces = TempFile::new(trace::listing().as_bytes()).unwrap();
+        let cases = TempFile::new(manual::stored("differences.txt").as_bytes()).unwrap();
+        let [traces, cases] = [&traces, &cases].map(|file| file.path().to_str().unwrap());
+        for files in [[traces, cases], [cases, traces]] {
+            let text = failure(&["damage-manual", files[0], files[1]]);
+            assert!(text.contains(" is not "), "{text}");
+        }
+        let text = failure(&["mutate-manual", "true", traces, "1"]);
+        assert!(text.contains(" is not "), "{text}");
+    }
+
+    #[test]
     fn mutate_rows_wants_a_count_and_a_program() {
         let file = TempFile::new(programs::listing().as_bytes()).unwrap();
         let path = file.path().to_str().unwrap();

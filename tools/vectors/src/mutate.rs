@@ -160,18 +160,22 @@ mod tests {
     use crate::interp;
     use crate::list::WORDS;
     use crate::listing::{UNCOMPARED, WIDTH};
+    use crate::manual::{stored, MANUAL};
     use crate::programs;
     use crate::rowline::{expansion, PROGRAMS};
     use crate::trace;
     use crate::traceline::TRACES;
     use crate::words;
+    use std::collections::HashSet;
 
-    fn lists() -> [(ListKind, String); 4] {
+    fn lists() -> [(ListKind, String); 6] {
         [
             (WORDS, words::listing()),
             (PROGRAMS, programs::listing()),
             (CALLS, interp::listing()),
             (TRACES, trace::listing()),
+            (MANUAL, stored("qemu.txt")),
+            (MANUAL, stored("differences.txt")),
         ]
     }
 
@@ -262,6 +266,17 @@ mod tests {
         assert!(drawn.iter().all(|line| line.starts_with("o ")));
         let firsts = drawn.iter().filter(|line| line.split(',').count() <= 3);
         assert!((20..180).contains(&firsts.count()));
+    }
+
+    #[test]
+    fn changes_of_cases_are_in_their_counts_and_results() {
+        let list = stored("differences.txt");
+        let lines: Vec<&str> = list.lines().collect();
+        let parts = MANUAL.parts(list.as_bytes());
+        let mut rng = Rng::new(SEED);
+        let drawn = (0..300).map(|_| draw(&MANUAL, list.as_bytes(), &parts, &mut rng).line);
+        let letters: HashSet<&str> = drawn.map(|line| &lines[line - 1][..1]).collect();
+        assert_eq!(letters, ["d", "u", "g", "r", "p", "h"].into());
     }
 
     #[test]

@@ -62,7 +62,6 @@ mod tests {
         let absent = run("no-such-program");
         let message = "no-such-program is not installed; the Debian package is no-such-package";
         assert_eq!(absent, Err(message.to_string()));
-        assert_eq!(unless_absent("nothing", absent), None);
         assert!(run("false")
             .unwrap_err()
             .starts_with("false: exit status: 1"));

@@ -168,3 +168,76 @@ fn cells(
     }
     Ok(cells)
 }
+
+#[cfg(test)]
+mod tests {
+    use super::*;
+
+    const LINES: [&[u8]; 8] = [
+        b"d 2 7\n",
+        b"w 13\n",
+        b"w ffffffff\n",
+        b"x 1 5\n",
+        b"x 1f 1\n",
+        b"m 0 2\n",
+        b"m ff 3\n",
+        b"h 0 1\n",
+    ];
+
+    #[test]
+    fn zeros_and_x0_are_left_out() {
+        // sll x3,x1,x2
+        let case = case(
+            &[0x0020_91b3],
+            &[(2, 3), (0, 9), (1, 0), (2, 4)],
+            &[(7, 1), (3, 0)],
+        );
+        assert_eq!(case.head('a'), "a 1 6\nw 2091b3\nx 2 3\nm 7 1\n");
+        assert_eq!((case.registers()[2], case.ram()[7]), (3, 1));
+        assert_eq!((case.registers().len(), case.ram().len()), (32, 256));
+    }
+
+    #[test]
+    fn what_is_read_is_what_was_written() {
+        let (case, behind) = Case::read('d', &LINES).unwrap();
+        assert_eq!(case.head('d').as_bytes(), LINES[..7].concat());
+        assert_eq!((behind, case.cycles), (7, 7));
+    }
+
+    #[test]
+    fn another_form_is_refused_at_its_line() {
+        let changed = |line: usize, text: &'static [u8]| {
+            let mut lines = LINES;
+            lines[line] = text;
+            Case::read('d', &lines).unwrap_err()
+        };
+        for first in [
+            "a 2 7\n", "d 0 7\n", "d 9 7\n", "d 2 0\n", "d 2 41\n", "d 2\n",
+        ] {
+            assert_eq!(changed(0, first.as_bytes()), 0, "{first}");
+        }
+        assert_eq!(changed(0, b"d 3 7\n"), 3);
+        assert_eq!(changed(2, b"w 100000000\n"), 2);
+        assert_eq!(changed(2, b"w 13"), 2);
+        for register in ["x 0 1\n", "x 20 1\n", "x 1 1\n", "x 2 0\n", "x 2\n"] {
+            assert_eq!(changed(4, register.as_bytes()), 4, "{register}");
+        }
+        for word in ["m 0 1\n", "m 100 1\n", "m 1 0\n", "m 1 1 1\n"] {
+            assert_eq!(changed(6, word.as_bytes()), 6, "{word}");
+        }
+        assert_eq!(Case::read('d', &[]), Err(0));
+        assert_eq!(Case::read('d', &LINES[..2]), Err(2));
+    }
+
+    #[test]
+    fn the_source_runs_it() {
+        // sll x3,x1,x2 leaves the cell of x0 filled; bne x1,x2,.+8
+        let shift = case(&[0x0020_91b3], &[(1, 1), (2, 3)], &[]);
+        assert_eq!(shift.run_source().0.st.regs[0], 8);
+        let state = shift.state_in_source();
+        assert_eq!(state.registers[..4], [0, 1, 3, 8]);
+        assert!(!state.taken && !shift.branches());
+        let branch = case(&[0x0020_9463], &[(1, 1)], &[]);
+        assert!(branch.state_in_source().taken && branch.branches());
+    }
+}

@@ -111,3 +111,96 @@ pub fn listing(list: &[u8]) -> Result<Vec<u8>, String> {
         apply(&MANUAL, damage, part)
     })
 }
+
+#[cfg(test)]
+mod tests {
+    use super::*;
+    use crate::list::fed_lines;
+    use crate::manual::stored;
+
+    const GOOD: [usize; 6] = [1, 8, 12, 17, 25, 46];
+
+    fn damaged() -> Vec<u8> {
+        let list = stored("qemu.txt") + &stored("differences.txt");
+        listing(list.as_bytes()).unwrap()
+    }
+
+    /// For each step the first wrong line of its case, counted from one, and what
+    /// stands there, with its line feed if it has one.
+    fn wrong_lines(list: &[u8]) -> Vec<Option<(usize, String)>> {
+        let wrong = |part| {
+            let case: &[u8] = &list[part];
+            let line = (MANUAL.first_wrong)(case)?;
+            let text = fed_lines(case).nth(line).unwrap_or(b"");
+            Some((1 + line, String::from_utf8(text.to_vec()).unwrap()))
+        };
+        MANUAL.parts(list).into_iter().map(wrong).collect()
+    }
+
+    #[test]
+    fn each_damage_is_where_it_is_meant_to_be() {
+        let expected = [
+            (2, 5, "g 2 0\n"),
+            (3, 5, "g 2 7fffffff\n"),
+            (4, 5, ""),
+            (5, 6, "g 1f 1\n"),
+            (6, 6, "g 1f 0\n"),
+            (7, 6, "g 7 7fffffffffffffff\n"),
+            (9, 7, "r ff f1e2d3c4b5a69700\n"),
+            (10, 8, "r 0 f1e2d3c4b5a697ff\n"),
+            (11, 8, ""),
+            (13, 4, "t 1\n"),
+            (14, 4, ""),
+            (15, 5, "t 0\n"),
+            (16, 6, "t 0\n"),
+            (18, 4, "g 1 80000001 ffffffff80000000\n"),
+            (19, 4, "r 1 1 ab\n"),
+            (20, 5, "p 3 7\n"),
+            (21, 3, "h 1 1\n"),
+            (22, 5, "p 2\n"),
+            (23, 5, "p 5 0\n"),
+            (24, 3, ""),
+            (26, 5, "g 2 31\n"),
+            (27, 4, "p 1 0\n"),
+            (28, 3, "h 0\n"),
+            (29, 2, "x 9 5a5a5a5aa5a5a5a5\n"),
+            (30, 2, "w 1fff50193\n"),
+            (31, 1, "a 0 1\n"),
+            (32, 1, "a 9 1\n"),
+            (33, 1, "a 1 0\n"),
+            (34, 1, "a 1 41\n"),
+            (35, 5, "g 2 80000000\n"),
+            (36, 4, "x 1 80000000\n"),
+            (37, 6, "x 1f 0\n"),
+            (38, 3, "x 0 1\n"),
+            (39, 6, "m 1ff ff7f80017fff80\n"),
+            (40, 6, "y 1 2\n"),
+            (41, 6, "\n"),
+            (42, 3, "x 6 Ffffffffffffffff\n"),
+            (43, 2, "w 07d09b3\n"),
+            (44, 2, "w  8d8a33\n"),
+            (45, 3, "x 9 7fffffff 1\n"),
+            (47, 6, "g 17 17"),
+        ];
+        let found = wrong_lines(&damaged());
+        assert_eq!(found.len(), PLAN.len());
+        for (step, line, text) in expected {
+            assert_eq!(found[step - 1], Some((line, text.to_string())), "{step}");
+        }
+        for step in GOOD {
+            assert_eq!(found[step - 1], None, "{step}");
+        }
+        assert_eq!(expected.len() + GOOD.len(), PLAN.len());
+    }
+
+    #[test]
+    fn the_stored_list_is_this_one() {
+        assert_eq!(damaged(), stored("damaged.txt").into_bytes());
+    }
+
+    #[test]
+    fn a_short_list_is_refused() {
+        let message = listing(stored("differences.txt").as_bytes()).unwrap_err();
+        assert!(message.contains("allows KeepWith(\"t\")"), "{message}");
+    }
+}

@@ -12,10 +12,16 @@ use super::case::{case, Case};
 use super::line::Place::{self, Halted, Ram, Register, Row};
 use super::line::{differing, undefined as undefined_lines};
 use super::qemu;
-use std::collections::VecDeque;
 
 /// The row of an address that is none of the program.
 const NONE: u64 = u64::MAX;
+
+/// `addi x0,x0,0`
+const NOP: u32 = 0x0000_0013;
+/// `sll x3,x1,x2`, which has six rows.
+const SHIFT: u32 = 0x0020_91b3;
+/// Different bytes.
+const CONTENT: u64 = 0x1122_3344_5566_7788;
 
 /// A case and the place that shows the difference.
 struct Difference {
@@ -64,29 +70,36 @@ pub fn listing() -> Result<String, String> {
     let differences = all();
     let by_qemu = |difference: &&Difference| matches!(difference.manual, Qemu);
     let asked = differences.iter().filter(by_qemu);
-    let mut states = VecDeque::from(qemu::run(asked.map(|difference| &difference.case))?);
-    let lines = differences.iter().map(
-        |Difference {
-             case,
-             place,
-             manual,
-         }| {
-            let source = place.in_source(&case.run_source().0);
-            let source = source.ok_or_else(|| format!("{case:x?}: no place {place:?}"))?;
-            let manual = match *manual {
-                Undefined => return Ok(undefined_lines(case, *place, source)),
-                Says(value) => Some(value),
-                Qemu => states.pop_front().and_then(|state| place.in_qemu(&state)),
-            };
-            match manual {
-                Some(value) if value != source => Ok(differing(case, *place, source, value)),
-                _ => Err(format!(
-                    "{case:x?}: {place:?} is {source:x} and {manual:x?} in the manual"
-                )),
+    let states = qemu::run(asked.map(|difference| &difference.case))?;
+    let mut states = states.into_iter();
+    let lines = differences
+        .iter()
+        .map(|difference| match difference.manual {
+            Undefined => difference.lines(None),
+            Says(value) => difference.lines(Some(value)),
+            Qemu => {
+                let state = states.next().expect("a state for each case that was asked");
+                difference.lines(difference.place.in_qemu(&state))
             }
-        },
-    );
+        });
     lines.collect()
+}
+
+impl Difference {
+    /// The lines of it, where the manual has this value or none.
+    fn lines(&self, manual: Option<u64>) -> Result<String, String> {
+        let Difference { case, place, .. } = self;
+        let refuse = |why: &str| Err(format!("{case:x?}: {place:?} {why}"));
+        let Some(source) = place.in_source(&case.run_source().0) else {
+            return refuse("is no place of the source");
+        };
+        match (&self.manual, manual) {
+            (Undefined, _) => Ok(undefined_lines(case, *place, source)),
+            (_, None) => refuse("is no place of qemu"),
+            (_, Some(value)) if value == source => refuse("is the same in the manual"),
+            (_, Some(value)) => Ok(differing(case, *place, source, value)),
+        }
+    }
 }
 
 fn all() -> Vec<Difference> {

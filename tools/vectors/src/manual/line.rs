@@ -27,7 +27,7 @@ use magnetar_source::interp::StreamCursor;
 /// The lists of cases about the manual.
 pub const MANUAL: ListKind = ListKind {
     width: None,
-    begins: |line| matches!(line.first(), Some(b'a' | b'd' | b'u')),
+    begins: |line| letter(line).is_some(),
     first_wrong,
     tries,
     rarity: |_| 1,
@@ -117,9 +117,17 @@ pub fn undefined(case: &Case, place: Place, source: u64) -> String {
     case.head('u') + &place.line(&[source])
 }
 
+/// The letter of a case that begins with this line.
+fn letter(line: &[u8]) -> Option<char> {
+    let letter = char::from(*line.first()?);
+    "adu".contains(letter).then_some(letter)
+}
+
 fn first_wrong(part: &[u8]) -> Option<usize> {
     let kept: Vec<&[u8]> = fed_lines(part).collect();
-    let letter = part.first().map_or('?', |&byte| char::from(byte));
+    let Some(letter) = letter(part) else {
+        return Some(0);
+    };
     let (case, behind) = match Case::read(letter, &kept) {
         Ok(found) => found,
         Err(line) => return Some(line),
@@ -151,4 +159,95 @@ fn shown(letter: char, case: &Case, text: Option<&[u8]>) -> Option<String> {
 /// come into the result.
 fn tries(line: &[u8], column: usize, to: u8) -> bool {
     !matches!(line[0], b'w' | b'x' | b'm') && is_digit_for_digit(line, column, to)
+}
+
+#[cfg(test)]
+mod tests {
+    use super::*;
+
+    const ADD: &str = "a 1 1\nw 2081b3\nx 1 1\nx 2 2\ng 3 3\n";
+    const STORE: &str = "a 1 1\nw 1003a3\nx 1 5\nm 0 1\nr 0 500000000000001\n";
+    const BRANCH: &str = "a 1 1\nw 463\nt 1\n";
+    const SRAI: &str = "d 1 1\nw 4200d093\nx 1 8000000000000000\ng 1 80000000 ffffffff80000000\n";
+    const JUMP: &str = "d 2 1\nw 100006f\nw 13\np 0 ffffffffffffffff\n";
+    const FENCE: &str = "d 1 1\nw ff0000f\nh 1 0\n";
+    const UNDEFINED: &str = "u 1 1\nw 104023\nx 1 5\nr 0 5\n";
+
+    fn wrong(text: &str) -> Option<usize> {
+        first_wrong(text.as_bytes())
+    }
+
+    #[test]
+    fn good_cases() {
+        for case in [ADD, STORE, BRANCH, SRAI, JUMP, FENCE, UNDEFINED] {
+            assert_eq!(wrong(case), None, "{case}");
+        }
+        // addi x0,x0,5 changes nothing that the manual has.
+        assert_eq!(wrong("a 1 1\nw 500013\n"), None);
+    }
+
+    #[test]
+    fn the_first_wrong_line_is_found() {
+        let changes = [
+            (ADD, "a 1", "a 2", 2),
+            (ADD, "a 1 1", "a 1 01", 0),
+            (ADD, "a 1", "b 1", 0),
+            (ADD, "w 2", "w 02", 1),
+            (ADD, "g 3 3", "g 3 2", 4),
+            (ADD, "g 3 3", "g 3 +3", 4),
+            (ADD, "g 3 3\n", "", 4),
+            (ADD, "g 3 3\n", "g 3 3", 4),
+            (ADD, "g 3 3\n", "g 3 3\ng 4 0\n", 5),
+            (ADD, "g 3 3\n", "g 3 3\nt 0\n", 5),
+            (STORE, "r 0 5", "r 0 4", 4),
+            (STORE, "r 0", "r 1", 4),
+            (BRANCH, "t 1", "t 0", 2),
+            (BRANCH, "t 1\n", "", 2),
+            (SRAI, "g 1 80000000", "g 1 80000001", 3),
+            (SRAI, "g 1 ", "g 40 ", 3),
+            (SRAI, "ffffffff80000000", "80000000", 3),
+            (SRAI, " ffffffff80000000", "", 3),
+            (SRAI, "w 4", "w 04", 1),
+            (SRAI, "g 1 80000000 f", "q 1 80000000 f", 3),
+            (JUMP, "p 0", "p 1", 3),
+            (JUMP, "ffffffffffffffff", "0", 3),
+            (FENCE, "h 1 0", "h 1 1", 2),
+            (FENCE, "h 1 0\n", "h 1 0\nh 1 0\n", 3),
+            (FENCE, "h 1 0\n", "", 2),
+            (UNDEFINED, "r 0 5", "r 0 6", 3),
+            (UNDEFINED, "r 0 5", "r 0 5 6", 3),
+            (UNDEFINED, "r 0 5", "r 100 5", 3),
+        ];
+        for (case, from, to, line) in changes {
+            assert!(case.contains(from), "{from}");
+            assert_eq!(
+                wrong(&case.replacen(from, to, 1)),
+                Some(line),
+                "{from} {to}"
+            );
+        }
+        assert_eq!(wrong(""), Some(0));
+    }
+
+    /// A list does not know what the manual says, only that it is something else.
+    #[test]
+    fn the_manual_may_say_anything_else() {
+        assert_eq!(wrong(&SRAI.replace("ffffffff80000000", "5")), None);
+        assert_eq!(wrong(&JUMP.replace("ffffffffffffffff", "1")), None);
+    }
+
+    #[test]
+    fn only_digits_of_what_must_show_are_tried() {
+        let tried = |line: &str, to| {
+            let columns = 0..line.len() - 1;
+            let chosen = columns.filter(|&column| tries(line.as_bytes(), column, to));
+            chosen.collect::<Vec<_>>()
+        };
+        assert_eq!(tried("a 1 10\n", b'f'), [2, 4, 5]);
+        assert_eq!(tried("d 1 1\n", b'g'), []);
+        assert_eq!(tried("p 2 a\n", b'0'), [2, 4]);
+        for line in ["w 13\n", "x 1 5\n", "m 1 5\n"] {
+            assert_eq!(tried(line, b'0'), [], "{line}");
+        }
+    }
 }

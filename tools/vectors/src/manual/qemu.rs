@@ -111,3 +111,89 @@ fn state(record: &[u8]) -> State {
         taken,
     }
 }
+
+#[cfg(test)]
+mod tests {
+    use super::*;
+    use crate::asm::{addi, branch, ld, store};
+    use crate::manual::case::case;
+    use crate::tool::unless_absent;
+
+    #[test]
+    fn the_slot_ends_in_jumps() {
+        let slot = slot(&[0x13, 0x73]);
+        assert_eq!(slot.len(), 10);
+        assert_eq!(slot[..4], [0x13, 0x73, jal(0, 32), jal(0, 32)]);
+        assert_eq!(slot[9], jal(0, 8));
+    }
+
+    #[test]
+    fn records_and_states() {
+        let case = Case {
+            buffer: HIGH,
+            ..case(&[0x13], &[(31, 7)], &[(255, 9)])
+        };
+        let mut record = record(&case);
+        assert_eq!(record.len(), RECORD_BYTES);
+        assert_eq!(record[..8], HIGH.to_le_bytes());
+        record[..8].copy_from_slice(&1u64.to_le_bytes());
+        let state = state(&record);
+        assert_eq!((state.registers, state.ram), (case.registers(), case.ram()));
+        assert!(state.taken);
+    }
+
+    /// A case has nothing of the one before it.
+    #[test]
+    fn cases_are_independent() {
+        let stores = case(&[store(3, [31, 0], 2040)], &[(31, 5)], &[]);
+        let behind = case(
+            &[store(3, [31, 31], 0), ld([1, 31], 0)],
+            &[(31, 0x800)],
+            &[],
+        );
+        let empty = case(&[ld([1, 0], 2040), ld([2, 2], 0)], &[(2, 0x800)], &[]);
+        let Some(states) = unless_absent(
+            "cases_are_independent",
+            run(&[stores, behind, empty.clone()]),
+        ) else {
+            return;
+        };
+        assert_eq!((states[0].ram[255], states[0].registers[31]), (5, 5));
+        assert_eq!((states[1].registers[1], states[1].ram[0]), (0x800, 0));
+        let mut registers = empty.registers();
+        registers[2] = 0;
+        assert_eq!(
+            (&states[2].registers, &states[2].ram),
+            (&registers, &empty.ram())
+        );
+    }
+
+    #[test]
+    fn ram_at_the_large_address() {
+        let words = [ld([1, 1], 8), store(3, [1, 2], -8)];
+        let case = Case {
+            buffer: HIGH,
+            ..case(&words, &[(1, HIGH), (2, HIGH + 0x7ff + 1)], &[(1, 6)])
+        };
+        let Some(states) = unless_absent("ram_at_the_large_address", run(&[case])) else {
+            return;
+        };
+        assert_eq!((states[0].registers[1], states[0].ram[255]), (6, 6));
+    }
+
+    #[test]
+    fn branches_and_the_longest_case() {
+        let beq = |imm, x1| case(&[branch(0, [1, 0], imm)], &[(1, x1)], &[]);
+        let distances = [8, -4, -4096, 4092];
+        let mut cases: Vec<Case> = distances.map(|imm| beq(imm, 0)).into();
+        cases.extend(distances.map(|imm| beq(imm, 1)));
+        cases.push(case(&[addi([1, 1], 1); 8], &[], &[]));
+        let Some(states) = unless_absent("branches_and_the_longest_case", run(&cases)) else {
+            return;
+        };
+        let taken: Vec<bool> = states.iter().map(|state| state.taken).collect();
+        assert_eq!(taken[..4], [true; 4]);
+        assert_eq!(taken[4..], [false; 5]);
+        assert_eq!(states[8].registers[1], 8);
+    }
+}

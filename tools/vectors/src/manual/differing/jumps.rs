@@ -1,12 +1,9 @@
 //! Where jumps and branches go, and links. In the manual the program's words lie at
 //! address 0, 4, 8 and so on; what it says is written here.
 
-use super::straight::SHIFT;
-use super::{after, shown, Difference, Register, Row, Says, NONE};
-use crate::asm::{addi, branch, jal, jalr};
+use super::{after, shown, Difference, Register, Row, Says, NONE, NOP, SHIFT};
+use crate::asm::{branch, jal, jalr};
 use crate::words::ECALL;
-
-const NOP: u32 = 0x0000_0013;
 
 pub fn differences() -> Vec<Difference> {
     let forms: [fn(i64) -> u32; 2] = [|imm| jal(0, imm), |imm| branch(0, [0, 0], imm)];
@@ -51,5 +48,5 @@ fn links() -> [Difference; 2] {
 
 /// After the last word the manual goes on at the address behind it.
 fn end() -> Difference {
-    after(1, Row, Says(NONE), &[addi([0, 0], 0)])
+    after(1, Row, Says(NONE), &[NOP])
 }

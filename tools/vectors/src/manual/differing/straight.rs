@@ -1,17 +1,13 @@
 //! Words that go straight on.
 
-use super::{after, shown, Difference, Halted, Qemu, Ram, Register, Says};
+use super::{shown, Difference, Halted, Qemu, Ram, Register, Says, CONTENT, SHIFT};
 use crate::asm::{addi, auipc, ld, load, lui, op, op32, op_imm, op_imm32, store};
 use crate::words::{EBREAK, ECALL};
 
-/// `sll x3,x1,x2`, which has six rows.
-pub const SHIFT: u32 = 0x0020_91b3;
 /// `fence iorw,iorw`
 const FENCE: u32 = 0x0ff0_000f;
 /// The bit that tells srai from srli.
 const ARITHMETIC: i64 = 0x400;
-/// Different bytes.
-const CONTENT: u64 = 0x1122_3344_5566_7788;
 
 pub fn differences() -> Vec<Difference> {
     let groups = [
@@ -129,8 +125,8 @@ fn x0() -> Vec<Difference> {
         shown(Register(1), Qemu, &[word], &[(1, 2)], &[])
     };
     let operands = [(1, 1), (2, 3)];
-    let mut first_stage = after(1, Register(0), Says(0), &[SHIFT]);
-    first_stage.case.registers = vec![(1, 1), (2, 3)];
+    let mut first_stage = shown(Register(0), Says(0), &[SHIFT], &operands, &[]);
+    first_stage.case.cycles = 1;
     vec![
         shown(Register(32), Says(0), &[addi([0, 0], 5)], &[], &[]),
         first_stage,
