@@ -38,13 +38,18 @@ use Damage::{Before, Cut, Flip, Keep, KeepWith, Last, Late, Less, Short, Text, T
 pub fn apply(kind: &ListKind, damage: Damage, part: &[u8]) -> Option<Vec<u8>> {
     let text = str::from_utf8(part).ok()?;
     let mut lines: Vec<String> = text.split_inclusive('\n').map(String::from).collect();
+    change(damage, &mut lines)?;
+    let changed = lines.concat().into_bytes();
+    let right = (kind.first_wrong)(&changed).is_none();
+    (right == matches!(damage, Keep | KeepWith(_))).then_some(changed)
+}
+
+fn change(damage: Damage, lines: &mut Vec<String>) -> Option<()> {
     let last = lines.len() - 1;
     let first = |beginning| lines.iter().position(|line| line.starts_with(beginning));
     match damage {
         Keep => {}
-        KeepWith(beginning) => {
-            first(beginning)?;
-        }
+        KeepWith(beginning) => return first(beginning).map(|_| ()),
         Flip(beginning, number) => {
             let place = first(beginning)?;
             lines[place] = flipped(&lines[place], number)?;
@@ -66,22 +71,15 @@ pub fn apply(kind: &ListKind, damage: Damage, part: &[u8]) -> Option<Vec<u8>> {
             let place = first(beginning).filter(|&place| place != last)?;
             lines.swap(place, place + 1);
         }
-        Before(beginning, line) => {
-            let place = first(beginning)?;
-            lines.insert(place, line.to_string());
-        }
+        Before(beginning, line) => lines.insert(first(beginning)?, line.to_string()),
         Last(line) => lines.push(line.to_string()),
-        Short(beginning) => {
-            lines.pop_if(|line| line.starts_with(beginning))?;
-        }
+        Short(beginning) => return lines.pop_if(|line| line.starts_with(beginning)).map(|_| ()),
         Cut => {
             let half = lines[last].len() / 2;
             lines[last].truncate(half);
         }
     }
-    let changed = lines.concat().into_bytes();
-    let right = (kind.first_wrong)(&changed).is_none();
-    (right == matches!(damage, Keep | KeepWith(_))).then_some(changed)
+    Some(())
 }
 
 /// The line with the lowest bit of one of its numbers flipped.

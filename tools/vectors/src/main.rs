@@ -62,7 +62,7 @@ usage: vectors decode                            list the unchanged Rust's answe
        vectors mutate-trace PROGRAM FILE COUNT   as mutate, for a list of traces
        vectors qemu                              list qemu's results of single instructions
        vectors differences                       list where source and manual part
-       vectors damage-manual FILE FILE           as damage, from the two lists above
+       vectors damage-manual QEMU DIFFERENCES    as damage, from these two lists
        vectors mutate-manual PROGRAM FILE COUNT  as mutate, for one of them
        vectors answer-trace                      print what trace must print for standard input
        vectors compare-trace PROGRAM COUNT SEED  compare PROGRAM with trace on random inputs
