@@ -206,7 +206,11 @@ module _ (rows : List ℕ) (inst : ℕ) (c : Cursor) (h : At rows inst c) where
       rw (e .funct3, reached-is offset, second) (store-agrees i (c .ram) (store-address inst (stateOf c)) (x-rs2 inst (stateOf c)) (h .typed .ram) l) in
       let w = ap (λ (r : CycleRecord). r .«ram_addr») (t .record-of) in
       record {
-        goes-on = record { next = ap (λ (d : Cursor). d .«micro_pc») (t .cursor) ∙ ap at (at-next rows inst c (t .one)); zero = u .1 };
+        goes-on = record {
+          running = ap (λ (d : Cursor). d .halted) (t .cursor);
+          next = ap (λ (d : Cursor). d .«micro_pc») (t .cursor) ∙ ap at (at-next rows inst c (t .one));
+          zero = u .1;
+        };
         state = ap₂ state (u .0) (ap (λ (d : Cursor). bytes (d .ram)) (t .cursor) ∙ m);
         rs1-val = reads-first rows inst c h row t refl;
         rs2-val = reads-second rows inst c h row t refl;
@@ -232,6 +236,7 @@ module _ (rows : List ℕ) (inst : ℕ) (c : Cursor) (h : At rows inst c) where
       let b = branchTaken (manual.funct3 inst) (cell (c .regs) (rs1 inst)) (cell (c .regs) (rs2 inst)) in
       let v : b ≡ taken i inst (stateOf c) = rw (e .funct3) (condition-agrees i _ _ first-lt second-lt ∙ ap₂ (branch i .gives) first second) in
       record {
+        running = ap (λ (d : Cursor). d .halted) (t .cursor);
         state = ap₂ state (u .0) (ap (λ (d : Cursor). bytes (d .ram)) (t .cursor) ∙ rw (branch-quiet b));
         zero = u .1;
         rs1-val = reads-first rows inst c h row t refl;

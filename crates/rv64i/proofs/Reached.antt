@@ -1,8 +1,8 @@
 -- What the agreement asks of a cursor is met, and its live cycles are those of a segment call. Assumes nothing.
 use mathlib.Core.Path.{_≡_, refl, ap, sym, _∙_}
 use mathlib.Core.Bool.{Bool, true, false, _&&_, false≢true}
-use mathlib.Core.List.{List, append-nil}
-use Prim.Native.Nat.{ℕ, suc, _%_, _^_, _<_}
+use mathlib.Core.List.{List, [], _∷_, append-nil}
+use Prim.Native.Nat.{ℕ, zero, suc, _+_, _%_, _^_, _<_}
 use native.Mathlib.Nat.{sub-self}
 use native.Mathlib.Omega.{arith}
 use lib.ListN.{length, getD, drop}
@@ -17,7 +17,7 @@ use Rattle.decode.specs.declared.Opcode.the-variants.{Invalid}
 use Rattle.decode.proofs.Laws.{laws as decoded}
 use Rattle.decode.proofs.Agrees.{agreement as encoded}
 use Rattle.expand.specs.Rows.{isRegShift, shifts}
-use Rattle.expand.specs.Expand.{rowsOf, expansionOf, startsOf}
+use Rattle.expand.specs.Expand.{rowsOf, expansionOf, startsFrom, startsOf}
 use Rattle.expand.proofs.Laws.{laws as expanded}
 use Rattle.interp.specs.declared.Cursor.{Cursor}
 use Rattle.interp.specs.Machine.{cell}
@@ -41,6 +41,14 @@ first-row program i c l e z t =
       zero = z;
       typed = t;
     }
+
+next-from : (k : ℕ) (program : List ℕ) (i : ℕ) → suc i < length program
+    → getD (startsFrom k program) (suc i) 0 ≡ getD (startsFrom k program) i 0 + cycles (getD program i 0)
+unfolding startsFrom
+next-from k [] i l = absurd (omega arith)
+next-from k (raw ∷ []) i l = absurd (omega arith)
+next-from k (raw ∷ next ∷ program) zero l = refl
+next-from k (raw ∷ next ∷ program) (suc i) l = next-from (k + cycles raw) (next ∷ program) i (omega arith)
 
 -- ---- the cycles of a word in a segment
 
@@ -79,6 +87,7 @@ pub premises : Premises
 premises =
     record {
       first-row = first-row;
+      next-word = next-from 0;
       fresh = fresh;
       live-kept = live-kept;
       padding-kept = padding-kept;

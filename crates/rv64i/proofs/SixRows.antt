@@ -204,6 +204,7 @@ module _ (rows : List ℕ) (inst : ℕ) (c : Cursor) (h : At rows inst c) (w : W
     shifted v e =
         let u : staged 5 fifth ≡ v = later-value 5 fifth (omega arith) (omega arith) five ∙ e in
         record {
+          running = ap (λ (d : Cursor). d .halted) cursor-is;
           next = ap (λ (d : Cursor). d .«micro_pc») cursor-is ∙ ap (λ (n : ℕ). at (n % length rows)) (omega (arith, five .pc, six));
           writes = record {
             state =

@@ -93,6 +93,7 @@ module _ (rows : List ℕ) (inst : ℕ) (c : Cursor) (h : At rows inst c) (row :
   unfolding commit regsAfter scratched
   going-on =
       record {
+        running = ap (λ (d : Cursor). d .halted) (t .cursor);
         next = ap (λ (d : Cursor). d .«micro_pc») (t .cursor) ∙ ap at (at-next rows inst c (t .one));
         zero =
             ap (λ (d : Cursor). cell (d .regs) 0) (t .cursor)

@@ -93,6 +93,7 @@ module _ (rows : List ℕ) (inst : ℕ) (c : Cursor) where
 
   -- the machine goes on at the next row, with cell 0 still zero
   pub record GoesOn : Type 0 where
+    pub running : after .halted ≡ false
     pub next : after .«micro_pc» ≡ at next
     pub zero : cell (after .regs) 0 ≡ 0
 
@@ -111,8 +112,9 @@ module _ (rows : List ℕ) (inst : ℕ) (c : Cursor) where
     pub rs1-val : shown .«rs1_val» ≡ x-rs1 inst s
     pub shows : Shows shown (x-rs1 inst s) (i-immediate inst) v
 
-  -- SLL SRL SRA: the last of six records shows the value, the first what rs1 held; cell 0 is not zero any more
+  -- SLL SRL SRA: the last of six records shows the value, the first what rs1 held; of cell 0 nothing is said
   pub record Shifts (v : ℕ) : Type 0 where
+    pub running : after .halted ≡ false
     pub next : after .«micro_pc» ≡ at next
     pub writes : Writes v
     pub rs1-val : live rows c .shown .«rs1_val» ≡ x-rs1 inst s
@@ -148,6 +150,7 @@ module _ (rows : List ℕ) (inst : ℕ) (c : Cursor) where
 
   -- BEQ BNE BLT BGE BLTU BGEU: the condition, not the target; if it does not hold, the machine goes on at the next row
   pub record Branches (i : Branch) : Type 0 where
+    pub running : after .halted ≡ false
     pub state : stateOf after ≡ s
     pub zero : cell (after .regs) 0 ≡ 0
     pub rs1-val : shown .«rs1_val» ≡ x-rs1 inst s
@@ -164,20 +167,24 @@ most SLLI = 63
 most SRLI = 63
 most SRAI = 31
 
--- n bytes at an address lie in one RAM word: one at any offset, two up to 6, four up to 4, eight at 0
+-- loads and stores: n bytes at an address lie in one RAM word
 abbrev pub InWord : ℕ → ℕ → Type 0
 InWord address n = address % 8 + n ≤ 8
 
 -- ---- the claim
 
--- what `At` asks is met at the first row of each word of a program; a fresh cursor is typed, and every cycle keeps it so;
--- and on a machine that has not halted the cycles of a segment call are those live cycles
+-- so that the agreement can be used from word to word of a program
 pub record Premises : Type 0 where
+  -- what `At` asks of the rows is met at the first row of each word, and the row after a word's rows is the next word's first
   pub first-row : (program : List ℕ) (i : ℕ) (c : Cursor) → i < length program → c .«micro_pc» .0 ≡ getD (startsOf program) i 0
       → cell (c .regs) 0 ≡ 0 → Typed c → At (expansionOf program) (getD program i 0) c
+  pub next-word : (program : List ℕ) (i : ℕ) → suc i < length program
+      → getD (startsOf program) (suc i) 0 ≡ getD (startsOf program) i 0 + cycles (getD program i 0)
+  -- a fresh cursor is typed, and every cycle keeps it so
   pub fresh : (input : List ℕ) → ((i : ℕ) → cell input i < 2 ^ 64) → Typed (startOf input)
   pub live-kept : (rows : List ℕ) (c : Cursor) → Typed c → Typed (live rows c .after)
   pub padding-kept : (rows : List ℕ) (c : Cursor) → Typed c → Typed (padding rows c .after)
+  -- on a machine that has not halted, the cycles of a segment call are these live cycles
   pub cursor : (rows : List ℕ) (inst : ℕ) (c : Cursor) → inst < 2 ^ 32 → At rows inst c → c .halted ≡ false
       → end (cycle rows) (cycles inst) c ≡ end (live rows) (cycles inst) c
   pub records : (rows : List ℕ) (inst : ℕ) (c : Cursor) → inst < 2 ^ 32 → At rows inst c → c .halted ≡ false
@@ -185,22 +192,27 @@ pub record Premises : Type 0 where
 
 -- a field for each group of 01's list
 pub record Agreement : Type 0 where
+  -- ADD SUB XOR OR AND SLTU
   pub operations : (i : Operation) (rows : List ℕ) (inst : ℕ) (c : Cursor) → IsOperation i inst → At rows inst c
       → Operates rows inst c (operation-value i inst (stateOf c))
+  -- ADDI XORI ORI ANDI SLTIU
   pub immediates : (i : Immediate) (rows : List ℕ) (inst : ℕ) (c : Cursor) → IsImmediate i inst → At rows inst c
       → Computes rows inst c (immediate-value i inst (stateOf c))
+  -- SLLI SRLI, SRAI by 0 to 31
   pub constant-shifts : (i : ConstantShift) (rows : List ℕ) (inst : ℕ) (c : Cursor) → IsConstantShift i inst → shamt inst ≤ most i → At rows inst c
       → Computes rows inst c (constant-shift-value i inst (stateOf c))
-  -- rs2 is not x0
+  -- SLL SRL SRA over six rows, rs2 not x0, cell 0 afterwards excepted
   pub shifts : (i : Shift) (rows : List ℕ) (inst : ℕ) (c : Cursor) → IsShift i inst → 0 < rs2 inst → At rows inst c
       → Shifts rows inst c (shift-value i inst (stateOf c))
+  -- LBU at any offset, LHU up to 6, LD at 0
   pub loads : (i : Load) (rows : List ℕ) (inst : ℕ) (c : Cursor) → IsLoad i inst → InWord (load-address inst (stateOf c)) (load i .gives) → At rows inst c
       → Loads rows inst c (load-value i inst (stateOf c))
+  -- SB at any offset, SH up to 6, SW up to 4, SD at 0
   pub stores : (i : Store) (rows : List ℕ) (inst : ℕ) (c : Cursor) → IsStore i inst → InWord (store-address inst (stateOf c)) (store i .gives) → At rows inst c
       → Stores rows inst c i
-  pub branches : (i : Branch) (rows : List ℕ) (inst : ℕ) (c : Cursor) → IsBranch i inst → At rows inst c
-      → Branches rows inst c i
-  -- bit 31 is clear
+  -- the six branch conditions
+  pub branches : (i : Branch) (rows : List ℕ) (inst : ℕ) (c : Cursor) → IsBranch i inst → At rows inst c → Branches rows inst c i
+  -- LUI with bit 31 clear
   pub lui : (rows : List ℕ) (inst : ℕ) (c : Cursor) → IsLui inst → bits inst 31 31 ≡ 0 → At rows inst c
       → Places rows inst c (lui-value inst)
   pub premises : Premises
