@@ -1,9 +1,10 @@
 -- A register shift over its six rows agrees with the manual. Assumes nothing.
 use mathlib.Core.Path.{_≡_, refl, ap, ap₂, sym, _∙_}
-use mathlib.Core.Bool.{true, false, cond}
+use mathlib.Core.Bool.{Bool, true, false, cond}
 use mathlib.Core.List.{List}
 use Prim.Native.Nat.{ℕ, zero, suc, _+_, _-_, _%_, _^_, _<_}
-use native.Mathlib.Nat.{add-zero, mod-eq-of-lt}
+use native.Mathlib.Nat.{add-zero, mod-eq-of-lt, zero-div}
+use native.Mathlib.Numerals.{add-one}
 use native.Mathlib.Omega.{arith}
 use lib.ListN.{length, set}
 use lib.Seq.{set-getD, set-set, getD-set-same, getD-set-other}
@@ -18,21 +19,23 @@ use Rattle.expand.specs.Rows.{shifts, stageRow, rowAs, rowOfInst}
 use Rattle.expand.specs.Expand.{stages}
 use Rattle.expand.specs.declared.RomRow.{RomRow}
 use Rattle.values.specs.Values as values
-use Rattle.values.specs.Values.{shiftAt, stageValue}
+use Rattle.values.specs.Values.{signedRight, shiftAt, stageValue}
 use Rattle.values.specs.Claims as turns
 use Rattle.values.proofs.Shifts.{one-stage, in-turn}
 use Rattle.interp.specs.declared.Cursor.{Cursor}
 use Rattle.interp.specs.declared.CycleRecord.{CycleRecord}
 use Rattle.interp.specs.Machine.{rowAt, at, cell}
-use Rattle.interp.specs.Cycle.{stageEffect, stageArm, armOf, recordOf, scratched, regsAfter, ramAfter, Step, commit, stepAt, live}
+use Rattle.interp.specs.Cycle.{redirect, stageEffect, stageArm, armOf, recordOf, scratched, regsAfter, ramAfter, Step, commit, stepAt, live}
 use Rattle.interp.specs.Calls.{end}
 use Rattle.interp.specs.Execute.{liveCount}
 use Rattle.interp.proofs.Halting.{count-live}
-use Rattle.rv64i.specs.Manual.{reg, put, Shift, SLL, SRL, SRA, shift, IsShift, shift-value}
+use Rattle.interp.proofs.Runs.{end-suc}
+use Rattle.rv64i.specs.Manual.{reg, put, Shift, SLL, SRL, SRA, shift, IsShift, shift-value, x-rs1, x-rs2}
 use Rattle.rv64i.specs.Agreement.{bytes, stateOf, cycles, after, shown, At, Shifts}
 use Rattle.rv64i.proofs.Words.{signed-right-is}
 use Rattle.rv64i.proofs.Cells.{state, registers, cell-read, cell-write, past-0}
 use Rattle.rv64i.proofs.Rows.{fields, decoded-as, inside, row-at, op-shift, six-rows}
+use Rattle.rv64i.proofs.Steps.{redirect-not-0, showing}
 use Rattle.rv64i.proofs.Alu.{funct7-of}
 
 -- ---- the value
@@ -47,6 +50,14 @@ pub shifting : (i : Shift) → shifts (shift i .funct3) ≡ true
 shifting SLL = refl
 shifting SRL = refl
 shifting SRA = refl
+
+-- zero is shifted to zero
+shift-zero : (l r t : Bool) (k : ℕ) → shiftAt l r t 0 k ≡ 0
+unfolding shiftAt signedRight
+shift-zero true r t k = omega arith
+shift-zero false true true k = zero-div (2 ^ k)
+shift-zero false true false k = zero-div (2 ^ k)
+shift-zero false false t k = refl
 
 -- ---- what a stage leaves
 
@@ -175,53 +186,93 @@ module _ (rows : List ℕ) (inst : ℕ) (c : Cursor) (h : At rows inst c) (w : W
     later-stage : (k : ℕ) (d : Cursor) → 0 < k → k < 5 → Staged k (acc k) d → Staged (suc k) (acc (suc k)) (live rows d .after)
     later-stage k d p l g = rw (later-value k d p (omega arith) g) at (on k (acc k) d l g)
 
-    -- before the last stage
+    -- ---- the cursor before each stage
+
+    -- what cell 0 holds there
+    abbrev held : ℕ → ℕ
+    held zero = cell (c .regs) 0
+    held (suc k) = acc (suc k)
+
+    none : end (live rows) 0 c ≡ c
+    unfolding end
+    none = refl
+
+    one-more : (n : ℕ) → end (live rows) (suc n) c ≡ live rows (end (live rows) n c) .after
+    one-more n = ap (λ (k : ℕ). end (live rows) k c) (sym (add-one n)) ∙ end-suc (live rows) n c
+
+    before : (k : ℕ) → k < 6 → Staged k (held k) (end (live rows) k c)
+    before zero l = rw none begun
+    before (suc zero) l = rw (one-more 0, none) first-stage
+    before (suc (suc k)) l = rw (one-more (suc k)) (later-stage (suc k) _ (omega arith) (omega arith) (before (suc k) (omega arith)))
+
+    record-at : (k : ℕ) → k < 6 → live rows (end (live rows) k c) ≡ stepAt (stageRow decoded k) (length rows) (end (live rows) k c)
+    record-at k l = live-is k (held k) (end (live rows) k c) l (before k l)
+
+    -- a register other than x0 is where it was; as x0 counts a zero accumulator
+    cell-kept : (r x : ℕ) → (r ≡ 0 → x ≡ cell (c .regs) 0) → cell (set (c .regs) 0 x) r ≡ cell (c .regs) r
+    cell-kept zero x p = getD-set-same (c .regs) 0 x 0 (omega (arith, h .typed .regs)) ∙ p refl
+    cell-kept (suc r) x p = getD-set-other (c .regs) 0 (suc r) x 0 (omega arith)
+
+    held-zero : (k : ℕ) → rs1 inst ≡ 0 → held k ≡ cell (c .regs) 0
+    held-zero zero e = refl
+    held-zero (suc k) e = rw (e, h .zero) (shift-zero (eqb (manual.funct3 inst) 1) (eqb (manual.funct3 inst) 5) (values.alternate inst) (b % 2 ^ suc k))
+
+    first-at : (k : ℕ) → k < 6 → cell (end (live rows) k c .regs) (rs1 inst) ≡ x-rs1 inst (stateOf c)
+    first-at k l =
+        ap (λ (cells : List ℕ). cell cells (rs1 inst)) (before k l .regs)
+        ∙ cell-kept (rs1 inst) (held k) (held-zero k) ∙ operand (rs1 inst) (omega arith)
+
+    second-at : (k : ℕ) → k < 6 → cell (end (live rows) k c .regs) (rs2 inst) ≡ x-rs2 inst (stateOf c)
+    second-at k l =
+        ap (λ (cells : List ℕ). cell cells (rs2 inst)) (before k l .regs)
+        ∙ cell-kept (rs2 inst) (held k) (λ e. absurd (omega arith)) ∙ operand (rs2 inst) (omega arith)
+
+    -- ---- the last stage
+
     abbrev fifth : Cursor
     fifth = end (live rows) 5 c
 
     five : Staged 5 (acc 5) fifth
-    unfolding end
-    five =
-        later-stage 4 _ (omega arith) (omega arith)
-        (later-stage 3 _ (omega arith) (omega arith) (later-stage 2 _ (omega arith) (omega arith) (later-stage 1 _ (omega arith) (omega arith) first-stage)))
-
-    last-step : live rows fifth ≡ stepAt (stageRow decoded 5) (length rows) fifth
-    last-step = live-is 5 (acc 5) fifth (omega arith) five
+    five = before 5 (omega arith)
 
     cursor-is : after rows inst c ≡ stepAt (stageRow decoded 5) (length rows) fifth .after
-    unfolding end
-    cursor-is = ap (λ (k : ℕ). end (live rows) k c) six ∙ ap (λ (t : Step). t .after) last-step
+    cursor-is = ap (λ (k : ℕ). end (live rows) k c) six ∙ one-more 5 ∙ ap (λ (t : Step). t .after) (record-at 5 (omega arith))
 
     record-is : shown rows inst c ≡ stepAt (stageRow decoded 5) (length rows) fifth .shown
-    record-is = ap (λ (k : ℕ). live rows (end (live rows) (k - 1) c) .shown) six ∙ ap (λ (t : Step). t .shown) last-step
+    record-is = ap (λ (k : ℕ). live rows (end (live rows) (k - 1) c) .shown) six ∙ ap (λ (t : Step). t .shown) (record-at 5 (omega arith))
 
     -- registers past cell 0 and memory are as before the first stage
     state-kept : stateOf fifth ≡ stateOf c
     state-kept = ap₂ state (ap registers (five .regs) ∙ past-0 (c .regs) (acc 5)) (ap bytes (five .ram))
 
-    shifted : (v : ℕ) → acc 6 ≡ v → Shifts rows inst c v
-    unfolding live stepAt armOf stageArm stageEffect commit recordOf regsAfter scratched ramAfter
-    shifted v e =
-        let u : staged 5 fifth ≡ v = later-value 5 fifth (omega arith) (omega arith) five ∙ e in
+    -- the accumulator by n bits of the amount is the manual's shift by them
+    acc-is : (i : Shift) → IsShift i inst → (n : ℕ) → b % 2 ^ n % 2 ^ 6 ≡ b % 2 ^ n → acc n ≡ shift i .gives (x-rs1 inst (stateOf c)) (x-rs2 inst (stateOf c) % 2 ^ n)
+    acc-is i e n m =
+        ap (values.shift (manual.funct3 inst) inst a) (sym m) ∙ shift-agrees i inst a (b % 2 ^ n) e (h .typed .reg-words (rs1 inst))
+        ∙ ap₂ (λ (x y : ℕ). shift i .gives x (y % 2 ^ n)) (operand (rs1 inst) (omega arith)) (operand (rs2 inst) (omega arith))
+
+    pub shifts-agree : (i : Shift) → IsShift i inst → Shifts rows inst c i
+    unfolding stepAt armOf stageArm stageEffect commit recordOf regsAfter scratched ramAfter
+    shifts-agree i e =
+        let v : staged 5 fifth ≡ shift-value i inst (stateOf c) =
+        later-value 5 fifth (omega arith) (omega arith) five ∙ shift-agrees i inst a b e (h .typed .reg-words (rs1 inst))
+        ∙ ap₂ (shift i .gives) (operand (rs1 inst) (omega arith)) (operand (rs2 inst) (omega arith)) in
         record {
           running = ap (λ (d : Cursor). d .halted) cursor-is;
           next = ap (λ (d : Cursor). d .«micro_pc») cursor-is ∙ ap (λ (n : ℕ). at (n % length rows)) (omega (arith, five .pc, six));
           writes = record {
             state =
                 ap stateOf cursor-is ∙ cell-write (fifth .regs) (bytes (fifth .ram)) (rd inst) (staged 5 fifth) (omega arith)
-                ∙ ap₂ (put (rd inst)) u state-kept;
+                ∙ ap₂ (put (rd inst)) v state-kept;
             rd = ap (λ (r : CycleRecord). r .rd) record-is;
-            rd-val = ap (λ (r : CycleRecord). r .«rd_val») record-is ∙ u;
+            rd-val = ap (λ (r : CycleRecord). r .«rd_val») record-is ∙ v;
           };
-          rs1-val = ap (λ (t : Step). t .shown .«rs1_val») (live-is 0 (cell (c .regs) 0) c (omega arith) begun) ∙ operand (rs1 inst) (omega arith);
-          rs2-val =
-              ap (λ (r : CycleRecord). r .«rs2_val») record-is ∙ ap (λ (cells : List ℕ). cell cells (rs2 inst)) (five .regs)
-              ∙ getD-set-other (c .regs) 0 (rs2 inst) (acc 5) 0 (omega arith) ∙ operand (rs2 inst) (omega arith);
-          alu-out = ap (λ (r : CycleRecord). r .«alu_out») record-is ∙ u;
+          rs1-val = λ k l. let m : k < 6 = omega (arith, six) in ap (λ (t : Step). t .shown .«rs1_val») (record-at k m) ∙ first-at k m;
+          rs2-val = λ k l. let m : k < 6 = omega (arith, six) in ap (λ (t : Step). t .shown .«rs2_val») (record-at k m) ∙ second-at k m;
+          shows = showing _ _ _ _ _ record-is (first-at 5 (omega arith)) (second-at 5 (omega arith)) v;
+          cell-0 =
+              ap (λ (d : Cursor). cell (d .regs) 0) cursor-is
+              ∙ getD-set-other (fifth .regs) (redirect (rd inst)) 0 (staged 5 fifth) 0 (redirect-not-0 (rd inst))
+              ∙ ap (λ (cells : List ℕ). cell cells 0) (five .regs) ∙ getD-set-same (c .regs) 0 (acc 5) 0 (omega (arith, h .typed .regs))
+              ∙ acc-is i e 5 (omega arith);
         }
-
-    pub shifts-agree : (i : Shift) → IsShift i inst → Shifts rows inst c (shift-value i inst (stateOf c))
-    shifts-agree i e =
-        shifted (shift-value i inst (stateOf c))
-        (shift-agrees i inst a b e (h .typed .reg-words (rs1 inst))
-        ∙ ap₂ (shift i .gives) (operand (rs1 inst) (omega arith)) (operand (rs2 inst) (omega arith)))

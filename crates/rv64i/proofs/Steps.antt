@@ -72,7 +72,7 @@ showing r q a b out e ea eb eo =
 
 -- ---- an effect that writes v to the row's destination and stores nothing
 
-redirect-not-0 : (r : ℕ) → 0 ≢ redirect r
+pub redirect-not-0 : (r : ℕ) → 0 ≢ redirect r
 redirect-not-0 zero e = omega arith
 redirect-not-0 (suc r) e = let f : redirect (suc r) ≡ suc r = rw (ne-eqb (suc r) 0 (omega arith)) in omega arith
 

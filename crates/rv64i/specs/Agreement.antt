@@ -14,7 +14,7 @@ use Rattle.interp.specs.Flags as flag
 use Rattle.interp.specs.Machine.{startOf, at, cell}
 use Rattle.interp.specs.Cycle.{redirect, live, padding, cycle}
 use Rattle.interp.specs.Calls.{recorded, end}
-use Rattle.rv64i.specs.Manual.{State, difference, Immediate, IsImmediate, immediate-value, ConstantShift, SLLI, SRLI, SRAI, IsConstantShift, shamt, constant-shift-value, Operation, IsOperation, operation-value, Shift, IsShift, shift-value, Branch, IsBranch, taken, Load, load, IsLoad, load-value, load-address, Store, store, IsStore, stored, store-address, IsLui, lui-value, x-rs1, x-rs2, i-immediate, s-immediate, computed}
+use Rattle.rv64i.specs.Manual.{State, difference, Immediate, IsImmediate, immediate-value, ConstantShift, SLLI, SRLI, SRAI, IsConstantShift, shamt, constant-shift-value, Operation, IsOperation, operation-value, Shift, shift, IsShift, shift-value, Branch, IsBranch, taken, Load, load, IsLoad, load-value, load-address, Store, store, IsStore, stored, store-address, IsLui, lui-value, x-rs1, x-rs2, i-immediate, s-immediate, computed}
 
 -- ---- the corresponding state
 
@@ -112,14 +112,15 @@ module _ (rows : List ℕ) (inst : ℕ) (c : Cursor) where
     pub rs1-val : shown .«rs1_val» ≡ x-rs1 inst s
     pub shows : Shows shown (x-rs1 inst s) (i-immediate inst) v
 
-  -- SLL SRL SRA: the last of six records shows the value, the first what rs1 held; of cell 0 nothing is said
-  pub record Shifts (v : ℕ) : Type 0 where
+  -- SLL SRL SRA: all six records show the operands, the last the value; in cell 0 stays the shift by the amount's low five bits
+  pub record Shifts (i : Shift) : Type 0 where
     pub running : after .halted ≡ false
     pub next : after .«micro_pc» ≡ at next
-    pub writes : Writes v
-    pub rs1-val : live rows c .shown .«rs1_val» ≡ x-rs1 inst s
-    pub rs2-val : shown .«rs2_val» ≡ x-rs2 inst s
-    pub alu-out : shown .«alu_out» ≡ v
+    pub writes : Writes (shift-value i inst s)
+    pub rs1-val : (k : ℕ) → k < cycles inst → live rows (end (live rows) k c) .shown .«rs1_val» ≡ x-rs1 inst s
+    pub rs2-val : (k : ℕ) → k < cycles inst → live rows (end (live rows) k c) .shown .«rs2_val» ≡ x-rs2 inst s
+    pub shows : Shows shown (x-rs1 inst s) (x-rs2 inst s) (shift-value i inst s)
+    pub cell-0 : cell (after .regs) 0 ≡ shift i .gives (x-rs1 inst s) (x-rs2 inst s % 2 ^ 5)
 
   -- LUI
   pub record Places (v : ℕ) : Type 0 where
@@ -202,8 +203,7 @@ pub record Agreement : Type 0 where
   pub constant-shifts : (i : ConstantShift) (rows : List ℕ) (inst : ℕ) (c : Cursor) → IsConstantShift i inst → shamt inst ≤ most i → At rows inst c
       → Computes rows inst c (constant-shift-value i inst (stateOf c))
   -- SLL SRL SRA over six rows, rs2 not x0, cell 0 afterwards excepted
-  pub shifts : (i : Shift) (rows : List ℕ) (inst : ℕ) (c : Cursor) → IsShift i inst → 0 < rs2 inst → At rows inst c
-      → Shifts rows inst c (shift-value i inst (stateOf c))
+  pub shifts : (i : Shift) (rows : List ℕ) (inst : ℕ) (c : Cursor) → IsShift i inst → 0 < rs2 inst → At rows inst c → Shifts rows inst c i
   -- LBU at any offset, LHU up to 6, LD at 0
   pub loads : (i : Load) (rows : List ℕ) (inst : ℕ) (c : Cursor) → IsLoad i inst → InWord (load-address inst (stateOf c)) (load i .gives) → At rows inst c
       → Loads rows inst c (load-value i inst (stateOf c))
