@@ -42,6 +42,19 @@ pub struct Form {
 }
 
 impl Form {
+    /// Whether a word has all the bits that the form fixes.
+    #[cfg(test)]
+    pub fn fits(&self, word: u32) -> bool {
+        let mask = match self.format {
+            Register | Shift5 => 0xfe00_707f,
+            Shift6 => 0xfc00_707f,
+            Upper | Jump => 0x7f,
+            System => u32::MAX,
+            _ => 0x707f,
+        };
+        word & mask == self.base
+    }
+
     /// funct3, where the form fixes it.
     pub fn funct3(&self) -> Option<u32> {
         match self.format {

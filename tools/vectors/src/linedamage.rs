@@ -1,5 +1,7 @@
 //! Damages lines of a part of a list whose lines have any length.
 
+#[cfg(test)]
+use crate::list::fed_lines;
 use crate::list::ListKind;
 use std::str;
 
@@ -80,6 +82,34 @@ fn change(damage: Damage, lines: &mut Vec<String>) -> Option<()> {
         }
     }
     Some(())
+}
+
+/// For each part of a list its first wrong line, counted from one, and what stands
+/// there, with its line feed if it has one.
+#[cfg(test)]
+pub fn wrong_lines(kind: &ListKind, list: &[u8]) -> Vec<Option<(usize, String)>> {
+    let wrong = |part| {
+        let part: &[u8] = &list[part];
+        let line = (kind.first_wrong)(part)?;
+        let text = fed_lines(part).nth(line).unwrap_or(b"");
+        Some((1 + line, String::from_utf8(text.to_vec()).unwrap()))
+    };
+    kind.parts(list).into_iter().map(wrong).collect()
+}
+
+/// Holds the wrong lines to those expected, by their part, counted from one.
+#[cfg(test)]
+pub fn expect_wrong(
+    found: &[Option<(usize, String)>],
+    expected: &[(usize, usize, &str)],
+    good: &[usize],
+) {
+    for &(part, line, text) in expected {
+        assert_eq!(found[part - 1], Some((line, text.to_string())), "{part}");
+    }
+    for &part in good {
+        assert_eq!(found[part - 1], None, "{part}");
+    }
 }
 
 /// The line with the lowest bit of one of its numbers flipped.

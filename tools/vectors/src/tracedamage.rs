@@ -78,7 +78,7 @@ pub fn listing(list: &[u8]) -> Result<Vec<u8>, String> {
 #[cfg(test)]
 mod tests {
     use super::*;
-    use crate::list::fed_lines;
+    use crate::linedamage::{expect_wrong, wrong_lines};
     use crate::trace;
 
     const GOOD: [usize; 4] = [1, 10, 19, 27];
@@ -86,19 +86,6 @@ mod tests {
 
     fn damaged() -> Vec<u8> {
         listing(trace::listing().as_bytes()).unwrap()
-    }
-
-    /// For each step the first wrong line of its case, counted from one, and what
-    /// stands there, with its line feed if it has one.
-    fn wrong_lines(list: &[u8]) -> Vec<Option<(usize, String)>> {
-        let parts = TRACES.parts(list).into_iter();
-        let wrong = |part| {
-            let case: &[u8] = &list[part];
-            let line = (TRACES.first_wrong)(case)?;
-            let text = fed_lines(case).nth(line).unwrap_or(b"");
-            Some((1 + line, String::from_utf8(text.to_vec()).unwrap()))
-        };
-        parts.map(wrong).collect()
     }
 
     #[test]
@@ -128,14 +115,9 @@ mod tests {
             (25, 3, "o0,0,0,1,0,1,0,0,0,0,0,1,0,1,1,0,327680\n"),
             (26, 2, ""),
         ];
-        let found = wrong_lines(&damaged());
+        let found = wrong_lines(&TRACES, &damaged());
         assert_eq!(found.len(), PLAN.len());
-        for (step, line, text) in expected {
-            assert_eq!(found[step - 1], Some((line, text.to_string())), "{step}");
-        }
-        for step in GOOD {
-            assert_eq!(found[step - 1], None, "{step}");
-        }
+        expect_wrong(&found, &expected, &GOOD);
         // The two with long lines.
         assert!(matches!(&found[19], Some((1, line)) if line.contains("cdAb")));
         assert!(matches!(&found[27], Some((6, line)) if !line.ends_with('\n')));

@@ -2,26 +2,14 @@
 
 use super::told::{answers, cycles, Cycle};
 use super::VALUES;
-use crate::forms::{Form, Format, FORMS};
+use crate::forms::{Format, FORMS};
 use magnetar_source::expand::{RomRow, VirtualKind};
 use std::collections::HashSet;
-
-/// The bits that tell a form from all others.
-fn mask(form: &Form) -> u32 {
-    match form.format {
-        Format::Register | Format::Shift5 => 0xfe00_707f,
-        Format::Shift6 => 0xfc00_707f,
-        Format::Upper | Format::Jump => 0x7f,
-        Format::System => u32::MAX,
-        _ => 0x707f,
-    }
-}
 
 #[test]
 fn every_form_is_run() {
     for form in &FORMS {
-        let words =
-            answers(|cycle| (cycle.row.raw & mask(form) == form.base).then_some(cycle.row.raw));
+        let words = answers(|cycle| (form.fits(cycle.row.raw)).then_some(cycle.row.raw));
         let least = match form.format {
             Format::System => 1,
             Format::Fence => 2,

@@ -115,7 +115,7 @@ pub fn listing(list: &[u8]) -> Result<Vec<u8>, String> {
 #[cfg(test)]
 mod tests {
     use super::*;
-    use crate::list::fed_lines;
+    use crate::linedamage::{expect_wrong, wrong_lines};
     use crate::manual::stored;
 
     const GOOD: [usize; 6] = [1, 8, 12, 17, 25, 46];
@@ -123,18 +123,6 @@ mod tests {
     fn damaged() -> Vec<u8> {
         let list = stored("qemu.txt") + &stored("differences.txt");
         listing(list.as_bytes()).unwrap()
-    }
-
-    /// For each step the first wrong line of its case, counted from one, and what
-    /// stands there, with its line feed if it has one.
-    fn wrong_lines(list: &[u8]) -> Vec<Option<(usize, String)>> {
-        let wrong = |part| {
-            let case: &[u8] = &list[part];
-            let line = (MANUAL.first_wrong)(case)?;
-            let text = fed_lines(case).nth(line).unwrap_or(b"");
-            Some((1 + line, String::from_utf8(text.to_vec()).unwrap()))
-        };
-        MANUAL.parts(list).into_iter().map(wrong).collect()
     }
 
     #[test]
@@ -182,14 +170,9 @@ mod tests {
             (45, 3, "x 9 7fffffff 1\n"),
             (47, 6, "g 17 17"),
         ];
-        let found = wrong_lines(&damaged());
+        let found = wrong_lines(&MANUAL, &damaged());
         assert_eq!(found.len(), PLAN.len());
-        for (step, line, text) in expected {
-            assert_eq!(found[step - 1], Some((line, text.to_string())), "{step}");
-        }
-        for step in GOOD {
-            assert_eq!(found[step - 1], None, "{step}");
-        }
+        expect_wrong(&found, &expected, &GOOD);
         assert_eq!(expected.len() + GOOD.len(), PLAN.len());
     }
 

@@ -2,7 +2,7 @@
 
 use super::case::Case;
 use super::{stored, MANUAL};
-use crate::forms::{Form, Format, FORMS};
+use crate::forms::FORMS;
 use crate::list::fed_lines;
 use std::collections::HashSet;
 use std::hash::Hash;
@@ -83,19 +83,8 @@ impl Fields {
 
     /// The instruction of RV64I.
     pub fn mnemonic(self) -> Option<&'static str> {
-        let form = FORMS.iter().find(|form| self.0 & mask(form) == form.base);
+        let form = FORMS.iter().find(|form| form.fits(self.0));
         form.map(|form| form.mnemonic)
-    }
-}
-
-/// The bits that a form fixes.
-fn mask(form: &Form) -> u32 {
-    match form.format {
-        Format::Register | Format::Shift5 => 0xfe00_707f,
-        Format::Shift6 => 0xfc00_707f,
-        Format::Upper | Format::Jump => 0x7f,
-        Format::System => u32::MAX,
-        _ => 0x707f,
     }
 }
 
