@@ -7,8 +7,8 @@ use lib.Pow.{mod-pow-add, shr-shr}
 use lib.IntN.{ℤ, pos, negsuc, _+ℤ_, _-ℤ_}
 use borrow.Author.Tests.{lt-ltb, le-ltb}
 use Rattle.decode.specs.Decode.{bitsOf, iImm, sImm, bImm, uImm, jImm, systemClass, opcodes, lookup, formOf, decodeOf}
-use Rattle.decode.specs.Manual.{Major, LOAD, MISC-MEM, OP-IMM, AUIPC, OP-IMM-32, STORE, OP, LUI, OP-32, BRANCH, JALR, JAL, SYSTEM, number, bits, signed, I-immediate, S-immediate, B-immediate, U-immediate, J-immediate}
-use Rattle.decode.specs.Claims.{classOf, I-type, load, op-imm, op-imm-32, jalr, U-type, auipc, lui, Word, immediate, Agreement}
+use Rattle.decode.specs.Manual.{Major, LOAD, MISC-MEM, OP-IMM, AUIPC, OP-IMM-32, STORE, OP, LUI, OP-32, BRANCH, JALR, JAL, SYSTEM, number, Word, bits, signed, I-immediate, S-immediate, B-immediate, U-immediate, J-immediate}
+use Rattle.decode.specs.Claims.{classOf, I-type, load, op-imm, op-imm-32, jalr, U-type, auipc, lui, immediate, Agreement}
 use Rattle.decode.specs.declared.Form.{Form}
 use Rattle.decode.specs.declared.Opcode.the-variants.{Invalid}
 use Rattle.decode.proofs.Immediates.{top, extended, iLow, sLow, bLow, jLow, i-extended, s-extended, b-extended, j-extended}

@@ -7,8 +7,7 @@ use native.Mathlib.Omega.{arith}
 use lib.Pow.{mod-pow-add, mod-mod-pow, shr-shr}
 use borrow.Author.Tests.{lt-ltb, le-ltb, ne-eqb}
 use Rattle.decode.specs.Manual as manual
-use Rattle.decode.specs.Manual.{Major, number, bits, signed, I-immediate}
-use Rattle.decode.specs.Claims.{Word}
+use Rattle.decode.specs.Manual.{Major, number, bits, signed, I-immediate, Word}
 use Rattle.values.specs.Values.{secondOperand, sum, shiftAt, aluValue}
 use Rattle.values.proofs.Words.{lt-or-ge}
 use Rattle.interp.specs.Cycle.{stores}

@@ -9,9 +9,9 @@ use lib.Seq.{getD-set-same, getD-set-other}
 use lib.Dec.{eqb}
 use lib.IntN.{ℤ}
 use Rattle.decode.specs.Manual as manual
-use Rattle.decode.specs.Manual.{Major, LOAD, OP-IMM, STORE, OP, LUI, BRANCH, rs1, rs2, bits, signed, I-immediate, S-immediate, B-immediate, U-immediate}
+use Rattle.decode.specs.Manual.{Major, LOAD, OP-IMM, STORE, OP, LUI, BRANCH, rs1, rs2, bits, signed, I-immediate, S-immediate, B-immediate, U-immediate, Word}
 use Rattle.decode.specs.Decode.{decodeOf}
-use Rattle.decode.specs.Claims.{Word, numberOf, classOf, op-imm, load as load-type, lui as lui-type}
+use Rattle.decode.specs.Claims.{numberOf, classOf, op-imm, load as load-type, lui as lui-type}
 use Rattle.decode.specs.declared.Inst.{Inst}
 use Rattle.decode.proofs.Agrees.{agreement as encoding}
 use Rattle.expand.specs.Rows.{shifts, aluRow, loadRow, storeRow, branchRow, upperRow, rowAs, rowOfInst}

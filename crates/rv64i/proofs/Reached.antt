@@ -10,9 +10,9 @@ use lib.Seq.{take-at}
 use lib.Dec.{eqb}
 use borrow.Author.Tests.{eqb-true}
 use Rattle.decode.specs.Manual as manual
-use Rattle.decode.specs.Manual.{OP}
+use Rattle.decode.specs.Manual.{OP, Word}
 use Rattle.decode.specs.Decode.{decodeOf}
-use Rattle.decode.specs.Claims.{Word, numberOf}
+use Rattle.decode.specs.Claims.{numberOf}
 use Rattle.decode.specs.declared.Opcode.the-variants.{Invalid}
 use Rattle.decode.proofs.Laws.{laws as decoded}
 use Rattle.decode.proofs.Agrees.{agreement as encoded}

@@ -11,9 +11,9 @@ use lib.Seq.{set-getD, set-set, getD-set-same, getD-set-other}
 use lib.Dec.{eqb}
 use borrow.Author.Tests.{ne-eqb}
 use Rattle.decode.specs.Manual as manual
-use Rattle.decode.specs.Manual.{OP, rd, rs1, rs2}
+use Rattle.decode.specs.Manual.{OP, rd, rs1, rs2, Word}
 use Rattle.decode.specs.Decode.{decodeOf}
-use Rattle.decode.specs.Claims.{Word, classOf}
+use Rattle.decode.specs.Claims.{classOf}
 use Rattle.decode.specs.declared.Inst.{Inst}
 use Rattle.expand.specs.Rows.{shifts, stageRow, rowAs, rowOfInst}
 use Rattle.expand.specs.Expand.{stages}

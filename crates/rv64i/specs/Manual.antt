@@ -11,8 +11,7 @@ use lib.Bits.{bitAnd, bitOr, bitXor}
 use lib.IntN.{ℤ, pos, negsuc, _+ℤ_, _-ℤ_}
 use lib.Signed.{ltZ, leZ, shrZ}
 use Rattle.decode.specs.Manual as field
-use Rattle.decode.specs.Manual.{Major, OP, OP-IMM, LUI, LOAD, STORE, BRANCH, rd, rs1, rs2, bits, signed, I-immediate, S-immediate, U-immediate}
-use Rattle.decode.specs.Claims.{Word}
+use Rattle.decode.specs.Manual.{Major, OP, OP-IMM, LUI, LOAD, STORE, BRANCH, Word, rd, rs1, rs2, bits, signed, I-immediate, S-immediate, U-immediate}
 
 -- ---- the state
 
