@@ -74,10 +74,11 @@ module _ (rows : List ℕ) (inst : ℕ) (c : Cursor) where
   abbrev pub s : State
   s = stateOf c
 
-  -- the cursor after its live cycles, and the record of the last of them
+  -- the cursor after its live cycles
   abbrev pub after : Cursor
   after = end (live rows) (cycles inst) c
 
+  -- the record of the last of them
   abbrev pub shown : CycleRecord
   shown = live rows (end (live rows) (cycles inst - 1) c) .shown
 
