@@ -37,7 +37,7 @@ pub record Lawful (count : ℕ) (e : Effect) : Type 0 where
 
 -- ---- tests
 
-cond-lt : (b : Bool) {x y n : ℕ} → x < n → y < n → cond b x y < n
+pub cond-lt : (b : Bool) {x y n : ℕ} → x < n → y < n → cond b x y < n
 cond-lt true p q = p
 cond-lt false p q = q
 

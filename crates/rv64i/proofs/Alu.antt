@@ -4,16 +4,17 @@ use mathlib.Core.Bool.{false}
 use mathlib.Core.Logic.{⊎-elim}
 use Prim.Native.Nat.{ℕ, _+_, _*_, _/_, _%_, _^_, _<_, _≤_}
 use native.Mathlib.Omega.{arith}
-use lib.Pow.{mod-pow-add, mod-mod-pow, shr-shr}
-use borrow.Author.Tests.{lt-ltb, le-ltb, ne-eqb}
+use lib.Pow.{mod-mod-pow, shr-shr}
+use borrow.Author.Tests.{ne-eqb}
 use Rattle.decode.specs.Manual as manual
 use Rattle.decode.specs.Manual.{Major, number, bits, signed, I-immediate, Word}
+use Rattle.decode.proofs.Agrees.{signed-low, signed-high, cut}
 use Rattle.values.specs.Values.{secondOperand, sum, shiftAt, aluValue}
 use Rattle.values.proofs.Words.{lt-or-ge}
 use Rattle.interp.specs.Cycle.{stores}
 use Rattle.rv64i.specs.Manual.{low, Immediate, ADDI, SLTIU, XORI, ORI, ANDI, immediate, Operation, ADD, SUB, SLTU, XOR, OR, AND, operation, ConstantShift, SLLI, SRLI, SRAI, constant-shift, shamt, Encoded7, IsImmediate, IsConstantShift, IsOperation, i-immediate}
 use Rattle.rv64i.specs.Agreement.{most}
-use Rattle.rv64i.proofs.Words.{difference-high, minus-is, signed-right-is}
+use Rattle.rv64i.proofs.Words.{minus-is, signed-right-is}
 
 -- opcode number and funct7, as the values look at them
 pub number-of : {m : Major} {inst : ℕ} → Word m inst → inst % 2 ^ 7 ≡ number m
@@ -49,18 +50,10 @@ operation-agrees AND inst a b imm e ha hb = rw (e .encoded .funct3, number-of (e
 
 -- ---- shifts by a constant
 
--- j + i bits of a word are j bits above i bits
-cut : (inst k j i : ℕ) → inst / 2 ^ k % 2 ^ (j + i) ≡ inst / 2 ^ (k + i) % 2 ^ j * 2 ^ i + inst / 2 ^ k % 2 ^ i
-cut inst k j i = mod-pow-add (inst / 2 ^ k) j i ∙ rw (shr-shr inst k i)
-
 -- the low bits of a number of twelve, sign-extended, are its own
 low-twelve : (v : ℕ) → v < 2 ^ 12 → low (signed 12 v) % 2 ^ 6 ≡ v % 2 ^ 6
-unfolding low signed
-low-twelve v h =
-    ⊎-elim
-    (λ l. rw (lt-ltb v (2 ^ 11) l) (omega arith))
-    (λ l. rw (le-ltb v (2 ^ 11) l, difference-high v (2 ^ 12) h) (omega arith))
-    (lt-or-ge v (2 ^ 11))
+unfolding low
+low-twelve v h = ⊎-elim (λ l. rw (signed-low 12 v l) (omega arith)) (λ l. rw (signed-high 12 v l h) (omega arith)) (lt-or-ge v (2 ^ 11))
 
 low-six : (t h q s : ℕ) → q < 2 ^ 4 → s < 2 ^ 1 → (t * 2 ^ 11 + h * 2 ^ 5 + q * 2 ^ 1 + s) % 2 ^ 6 ≡ h % 2 ^ 1 * 2 ^ 5 + (q * 2 ^ 1 + s)
 low-six t h q s hq hs = omega arith

@@ -1,5 +1,5 @@
 -- Each value is a word where its operands are. Assumes nothing.
-use mathlib.Core.Bool.{Bool, true, false, cond, _&&_}
+use mathlib.Core.Bool.{Bool, true, false, _&&_}
 use Prim.Native.Nat.{ℕ, _+_, _-_, _*_, _%_, _^_, _<_, min}
 use mathlib.Core.Path.{_≡_}
 use native.Mathlib.Nat.{mod-lt, lt-of-le-of-lt}
@@ -9,20 +9,16 @@ use lib.Bits.{and-lt, or-lt, xor-lt}
 use lib.Dec.{eqb, ltb}
 use lib.Pow.{pow-pos, pow-add, shr-lt, shr-le}
 use Rattle.values.specs.Values.{signedRight, alternate, registerForm, secondOperand, shiftAt, sum, aluValue, amount, stageValue, loadValue, storeWidth, merge, storeValue, upperValue}
-
--- a choice of words is a word
-pub choice-lt : (t : Bool) {x y : ℕ} → x < 2 ^ 64 → y < 2 ^ 64 → cond t x y < 2 ^ 64
-choice-lt true hx hy = hx
-choice-lt false hx hy = hy
+use Rattle.interp.proofs.Laws.{cond-lt}
 
 pub signed-right-lt : (x k : ℕ) → x < 2 ^ 64 → signedRight x k < 2 ^ 64
 unfolding signedRight
-signed-right-lt x k h = choice-lt (ltb x (2 ^ 63)) (lt-of-le-of-lt (shr-le x k) h) (omega arith)
+signed-right-lt x k h = cond-lt (ltb x (2 ^ 63)) (lt-of-le-of-lt (shr-le x k) h) (omega arith)
 
 shift-lt : (l r t : Bool) (x k : ℕ) → x < 2 ^ 64 → shiftAt l r t x k < 2 ^ 64
 unfolding shiftAt
 shift-lt l r t x k h =
-    choice-lt l (omega arith) (choice-lt r (choice-lt t (signed-right-lt x k h) (lt-of-le-of-lt (shr-le x k) h)) h)
+    cond-lt l (omega arith) (cond-lt r (cond-lt t (signed-right-lt x k h) (lt-of-le-of-lt (shr-le x k) h)) h)
 
 pub stage-lt : (k f raw acc b : ℕ) → acc < 2 ^ 64 → stageValue k f raw acc b < 2 ^ 64
 stage-lt k f raw acc b h = shift-lt (eqb f 1) (eqb f 5) (alternate raw) acc (amount k b) h
@@ -30,21 +26,21 @@ stage-lt k f raw acc b h = shift-lt (eqb f 1) (eqb f 5) (alternate raw) acc (amo
 two-lt : (f raw a b : ℕ) → a < 2 ^ 64 → b < 2 ^ 64 → aluValue f raw a b < 2 ^ 64
 unfolding aluValue sum
 two-lt f raw a b ha hb =
-    choice-lt (eqb f 0) (choice-lt (registerForm raw && alternate raw) (omega arith) (omega arith))
-    (choice-lt (eqb f 1) (shift-lt true false (alternate raw) a (b % 64) ha)
-    (choice-lt (eqb f 3) (choice-lt (ltb a b) (omega arith) (omega arith))
-    (choice-lt (eqb f 4) (xor-lt 64 a b ha hb)
-    (choice-lt (eqb f 5) (shift-lt false true (alternate raw) a (b % 64) ha)
-    (choice-lt (eqb f 6) (or-lt 64 a b ha hb)
-    (choice-lt (eqb f 7) (and-lt 64 a b ha hb) (omega arith)))))))
+    cond-lt (eqb f 0) (cond-lt (registerForm raw && alternate raw) (omega arith) (omega arith))
+    (cond-lt (eqb f 1) (shift-lt true false (alternate raw) a (b % 64) ha)
+    (cond-lt (eqb f 3) (cond-lt (ltb a b) (omega arith) (omega arith))
+    (cond-lt (eqb f 4) (xor-lt 64 a b ha hb)
+    (cond-lt (eqb f 5) (shift-lt false true (alternate raw) a (b % 64) ha)
+    (cond-lt (eqb f 6) (or-lt 64 a b ha hb)
+    (cond-lt (eqb f 7) (and-lt 64 a b ha hb) (omega arith)))))))
 
 pub alu-lt : (f raw a b imm : ℕ) → a < 2 ^ 64 → b < 2 ^ 64 → imm < 2 ^ 64 → aluValue f raw a (secondOperand raw b imm) < 2 ^ 64
-alu-lt f raw a b imm ha hb hi = two-lt f raw a (secondOperand raw b imm) ha (choice-lt (registerForm raw) hb hi)
+alu-lt f raw a b imm ha hb hi = two-lt f raw a (secondOperand raw b imm) ha (cond-lt (registerForm raw) hb hi)
 
 pub load-lt : (f w off : ℕ) → w < 2 ^ 64 → loadValue f w off < 2 ^ 64
 unfolding loadValue
 load-lt f w off h =
-    choice-lt (eqb f 0) (omega arith) (choice-lt (eqb f 4) (omega arith) (choice-lt (eqb f 1) (omega arith) (choice-lt (eqb f 5) (omega arith) h)))
+    cond-lt (eqb f 0) (omega arith) (cond-lt (eqb f 4) (omega arith) (cond-lt (eqb f 1) (omega arith) (cond-lt (eqb f 5) (omega arith) h)))
 
 -- of a word of j + m + k bits
 merge-lt : (old src j m k : ℕ) → old < 2 ^ (j + m + k) → merge old src k m < 2 ^ (j + m + k)
@@ -62,4 +58,4 @@ store-lt f old src off h =
 
 pub upper-lt : (raw imm mp : ℕ) → imm < 2 ^ 64 → upperValue raw imm mp < 2 ^ 64
 unfolding upperValue
-upper-lt raw imm mp h = choice-lt (eqb (raw % 2 ^ 7) 0x17) (omega arith) h
+upper-lt raw imm mp h = cond-lt (eqb (raw % 2 ^ 7) 0x17) (omega arith) h

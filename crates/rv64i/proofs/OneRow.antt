@@ -26,7 +26,7 @@ use Rattle.rv64i.specs.Agreement.{bytes, stateOf, after, shown, takenFla
 use Rattle.rv64i.proofs.Words.{minus-is, less-is, not-ltb, not-ltZ}
 use Rattle.rv64i.proofs.Cells.{state, registers, cell-read, past-31}
 use Rattle.rv64i.proofs.Rows.{fields, decoded-as, immediate-is, no-shift, op-shift}
-use Rattle.rv64i.proofs.Steps.{Took, took, reads-first, reads-second, showing, at-next, going-on, writing}
+use Rattle.rv64i.proofs.Steps.{Took, took, reads-first, reads-second, showing, at-next, done}
 use Rattle.rv64i.proofs.Alu.{number-of, quiet, immediate-agrees, constant-agrees, operation-agrees}
 use Rattle.rv64i.proofs.Access.{load-agrees, load-quiet, width-agrees, store-agrees}
 
@@ -95,9 +95,10 @@ module _ (rows : List ℕ) (inst : ℕ) (c : Cursor) (h : At rows inst c) where
       let row = aluRow (fields (classOf OP-IMM inst) imm inst) in
       let t = single OP-IMM (I-immediate inst) w refl (encoding .i-immediate OP-IMM op-imm inst w) in
       let q = quiet _ (alu-flags-lt (manual.funct3 inst) inst) in
+      let p = done rows inst c h row refl (value imm) 0 0 0 0 0 0 _ _ _ _ _ q t v e in
       record {
-        goes-on = going-on rows inst c h row refl (value imm) 0 0 0 0 0 0 _ _ _ _ _ q t;
-        writes = writing rows inst c h row refl (value imm) 0 0 0 0 0 0 _ _ _ _ _ q t v e;
+        goes-on = p .0;
+        writes = p .1;
         rs1-val = reads-first rows inst c h row t refl;
         shows = showing _ _ _ _ _ (t .record-of) first (rw (number-of w)) e;
       }
@@ -130,9 +131,10 @@ module _ (rows : List ℕ) (inst : ℕ) (c : Cursor) (h : At rows inst c) where
       let q = quiet _ (alu-flags-lt (manual.funct3 inst) inst) in
       let v : value imm ≡ operation-value i inst (stateOf c) =
       operation-agrees i inst _ _ imm e first-lt second-lt ∙ ap₂ (operation i .gives) first second in
+      let p = done rows inst c h row refl (value imm) 0 0 0 0 0 0 _ _ _ _ _ q t _ v in
       record {
-        goes-on = going-on rows inst c h row refl (value imm) 0 0 0 0 0 0 _ _ _ _ _ q t;
-        writes = writing rows inst c h row refl (value imm) 0 0 0 0 0 0 _ _ _ _ _ q t _ v;
+        goes-on = p .0;
+        writes = p .1;
         rs1-val = reads-first rows inst c h row t refl;
         rs2-val = reads-second rows inst c h row t refl;
         shows = showing _ _ _ _ _ (t .record-of) first (rw (number-of (e .encoded .word)) second) v;
@@ -146,9 +148,10 @@ module _ (rows : List ℕ) (inst : ℕ) (c : Cursor) (h : At rows inst c) where
       let row = upperRow (fields (classOf LUI inst) (lui-value inst) inst) in
       let t = single LUI (U-immediate inst) w refl (encoding .u-immediate LUI lui-type inst w z) in
       let v : upperValue inst (lui-value inst) (c .«micro_pc» .0) ≡ lui-value inst = rw (number-of w) in
+      let p = done rows inst c h row refl _ 0 0 0 0 0 0 _ _ _ _ _ refl t (lui-value inst) v in
       record {
-        goes-on = going-on rows inst c h row refl _ 0 0 0 0 0 0 _ _ _ _ _ refl t;
-        writes = writing rows inst c h row refl _ 0 0 0 0 0 0 _ _ _ _ _ refl t (lui-value inst) v;
+        goes-on = p .0;
+        writes = p .1;
         shows = showing _ _ _ _ _ (t .record-of) (h .zero) (h .zero) v;
       }
 
@@ -180,9 +183,10 @@ module _ (rows : List ℕ) (inst : ℕ) (c : Cursor) (h : At rows inst c) where
       let q : storing (loadFlags (manual.funct3 inst)) ≡ false = rw (e .funct3) (load-quiet i) in
       let v : loadValue (manual.funct3 inst) (cell (c .ram) (wordOf (reached offset))) (offsetOf (reached offset)) ≡ load-value i inst (stateOf c) =
       rw (e .funct3, reached-is offset) (load-agrees (c .ram) (load-address inst (stateOf c)) (h .typed .ram-words) i l) in
+      let p = done rows inst c h row refl _ _ 0 0 0 _ 0 _ _ _ _ _ q t (load-value i inst (stateOf c)) v in
       record {
-        goes-on = going-on rows inst c h row refl _ _ 0 0 0 _ 0 _ _ _ _ _ q t;
-        writes = writing rows inst c h row refl _ _ 0 0 0 _ 0 _ _ _ _ _ q t (load-value i inst (stateOf c)) v;
+        goes-on = p .0;
+        writes = p .1;
         rs1-val = reads-first rows inst c h row t refl;
         shows = showing _ _ _ _ _ (t .record-of) first refl (reached-is offset);
         accesses = accesses offset _ (t .record-of) refl refl;

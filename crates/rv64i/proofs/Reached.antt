@@ -91,6 +91,6 @@ premises =
       fresh = fresh;
       live-kept = live-kept;
       padding-kept = padding-kept;
-      cursor = λ rows inst c f h z. same-cursor rows inst c f h z;
-      records = λ rows inst c f h z. same-records rows inst c f h z;
+      segment-cursor = same-cursor;
+      segment-records = same-records;
     }

@@ -89,7 +89,7 @@ module _ (rows : List ℕ) (inst : ℕ) (c : Cursor) (h : At rows inst c) (row :
     (t : Took rows inst c (commit row c (effect (writes (row .rd) v (c .regs))
     (record { «ram_addr» = addr; «ram_old» = old; «ram_new» = new; «store_src» = src; «byte_offset» = off; «store_width» = width })
     (shows x y out moved flags) (following rows c)))) where
-  pub going-on : GoesOn rows inst c
+  going-on : GoesOn rows inst c
   unfolding commit regsAfter scratched
   going-on =
       record {
@@ -100,7 +100,7 @@ module _ (rows : List ℕ) (inst : ℕ) (c : Cursor) (h : At rows inst c) (row :
             ∙ getD-set-other (c .regs) (redirect (row .rd)) 0 v 0 (redirect-not-0 (row .rd)) ∙ h .zero;
       }
 
-  pub writing : (w : ℕ) → v ≡ w → Writes rows inst c w
+  writing : (w : ℕ) → v ≡ w → Writes rows inst c w
   unfolding commit recordOf regsAfter ramAfter scratched
   writing w e =
       record {
@@ -108,3 +108,6 @@ module _ (rows : List ℕ) (inst : ℕ) (c : Cursor) (h : At rows inst c) (row :
         rd = ap (λ (r : CycleRecord). r .rd) (t .record-of) ∙ ap redirect hd;
         rd-val = ap (λ (r : CycleRecord). r .«rd_val») (t .record-of) ∙ e;
       }
+
+  pub done : (w : ℕ) → v ≡ w → GoesOn rows inst c × Writes rows inst c w
+  done w e = (going-on, writing w e)

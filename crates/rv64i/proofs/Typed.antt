@@ -13,9 +13,10 @@ use Rattle.expand.proofs.Laws.{laws as expanded}
 use Rattle.values.specs.Values.{stageValue}
 use Rattle.interp.specs.declared.Cursor.{Cursor}
 use Rattle.interp.specs.Machine.{rowAt, loaded, startOf, cell}
+use Rattle.interp.proofs.Laws.{cond-lt}
 use Rattle.interp.specs.Cycle.{redirect, stores, aluArm, stageEffect, stageArm, loadArm, storeArm, branchArm, upperArm, jumpArm, systemArm, armOf, paddingArm, scratched, regsAfter, ramAfter, commit, stepAt, live, frozenAt, padding}
 use Rattle.rv64i.specs.Agreement.{Typed}
-use Rattle.rv64i.proofs.Bounds.{choice-lt, stage-lt, alu-lt, load-lt, store-lt, upper-lt}
+use Rattle.rv64i.proofs.Bounds.{stage-lt, alu-lt, load-lt, store-lt, upper-lt}
 
 -- ---- lists of words
 
@@ -83,7 +84,7 @@ module _ (row : RomRow) (mp count : ℕ) (regs ram : List ℕ) (imm : row .imm <
   small (ShiftStage k) = by (eqb k 5) refl
     where
       value : stageValue k (row .funct3) (row .raw) (cond (eqb k 0) (cell regs (row .rs1)) (cell regs 0)) (cell regs (row .rs2)) < 2 ^ 64
-      value = stage-lt k (row .funct3) (row .raw) _ _ (choice-lt (eqb k 0) (hr .word (row .rs1)) (hr .word 0))
+      value = stage-lt k (row .funct3) (row .raw) _ _ (cond-lt (eqb k 0) (hr .word (row .rs1)) (hr .word 0))
 
       by : (t : Bool) → eqb k 5 ≡ t → Small (ShiftStage k)
       by true e = record { value = rw e value; new = rw e (omega arith); scratch = rw e hr }
@@ -112,7 +113,7 @@ live-kept rows c h =
     let e = armOf (row .kind) row mp (length rows) (c .regs) (c .ram) in
     let r = set-words (e .write .rd) (s .scratch) (s .value) in
     let m = choice-words (stores (e .shown .flags)) (set-words (e .access .«ram_addr») hm (s .new)) hm in
-    record { regs = r .size; ram = m .size; reg-words = r .word; ram-words = m .word; output = choice-lt (e .halts) (s .value) (h .output) }
+    record { regs = r .size; ram = m .size; reg-words = r .word; ram-words = m .word; output = cond-lt (e .halts) (s .value) (h .output) }
 
 pub padding-kept : (rows : List ℕ) (c : Cursor) → Typed c → Typed (padding rows c .after)
 unfolding padding frozenAt paddingArm regsAfter scratched ramAfter

@@ -10,10 +10,12 @@ use lib.IntN.{ℤ, pos, negsuc, _-ℤ_}
 use lib.Signed.{ltZ, leZ, shrZ}
 use borrow.Author.Tests.{lt-ltb, le-ltb, le-leb, lt-leb}
 use Rattle.decode.specs.Manual.{signed}
-use Rattle.values.specs.Values.{minus, signedRight, less}
+use Rattle.decode.proofs.Agrees.{less, signed-low, signed-high}
+use Rattle.values.specs.Values as value
+use Rattle.values.specs.Values.{minus, signedRight}
 use Rattle.values.specs.Claims as values
 use Rattle.values.proofs.Words.{lt-or-ge}
-use Rattle.values.proofs.Readings.{signed-low, signed-high, signed-claims}
+use Rattle.values.proofs.Readings.{signed-claims}
 use Rattle.rv64i.specs.Manual.{low, difference, arithmetic-right}
 use Rattle.rv64i.proofs.Bounds.{signed-right-lt}
 
@@ -29,8 +31,8 @@ pub low-signed : (x : ℕ) → x < 2 ^ 64 → low (signed 64 x) ≡ x
 unfolding low
 low-signed x h =
     ⊎-elim
-    (λ l. ap low (same-reading x ∙ signed-low x l) ∙ mod-eq-of-lt h)
-    (λ l. ap low (same-reading x ∙ signed-high x l h) ∙ omega arith)
+    (λ l. ap low (signed-low 64 x l) ∙ mod-eq-of-lt h)
+    (λ l. ap low (signed-high 64 x l h) ∙ omega arith)
     (lt-or-ge x (2 ^ 63))
 
 -- ---- the difference
@@ -39,15 +41,11 @@ difference-low : (a b : ℕ) → b ≤ a → pos a -ℤ pos b ≡ pos (a - b)
 difference-low a zero h = ap pos (omega arith)
 difference-low a (suc b) h = rw (le-ltb a (suc b) h)
 
-pub difference-high : (a b : ℕ) → a < b → pos a -ℤ pos b ≡ negsuc (b - suc a)
-difference-high a zero h = absurd (omega arith)
-difference-high a (suc b) h = rw (lt-ltb a (suc b) h)
-
 pub minus-is : (a b : ℕ) → a < 2 ^ 64 → b < 2 ^ 64 → minus a b ≡ difference a b
 unfolding low
 minus-is a b ha hb =
     ⊎-elim
-    (λ l. sym (ap low (difference-high a b l) ∙ omega arith))
+    (λ l. sym (ap low (less a b l) ∙ omega arith))
     (λ l. sym (ap low (difference-low a b l) ∙ omega arith))
     (lt-or-ge a b)
 
@@ -60,7 +58,7 @@ signed-right-is x k h =
 
 -- ---- the orders
 
-pub less-is : (a b : ℕ) → a < 2 ^ 64 → b < 2 ^ 64 → less a b ≡ ltZ (signed 64 a) (signed 64 b)
+pub less-is : (a b : ℕ) → a < 2 ^ 64 → b < 2 ^ 64 → value.less a b ≡ ltZ (signed 64 a) (signed 64 b)
 less-is a b ha hb = rw (same-reading a, same-reading b) (signed-claims .order a b ha hb)
 
 -- a test that fails is the other order

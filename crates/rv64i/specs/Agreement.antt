@@ -187,9 +187,9 @@ pub record Premises : Type 0 where
   pub live-kept : (rows : List ℕ) (c : Cursor) → Typed c → Typed (live rows c .after)
   pub padding-kept : (rows : List ℕ) (c : Cursor) → Typed c → Typed (padding rows c .after)
   -- on a machine that has not halted, the cycles of a segment call are these live cycles
-  pub cursor : (rows : List ℕ) (inst : ℕ) (c : Cursor) → inst < 2 ^ 32 → At rows inst c → c .halted ≡ false
+  pub segment-cursor : (rows : List ℕ) (inst : ℕ) (c : Cursor) → inst < 2 ^ 32 → At rows inst c → c .halted ≡ false
       → end (cycle rows) (cycles inst) c ≡ end (live rows) (cycles inst) c
-  pub records : (rows : List ℕ) (inst : ℕ) (c : Cursor) → inst < 2 ^ 32 → At rows inst c → c .halted ≡ false
+  pub segment-records : (rows : List ℕ) (inst : ℕ) (c : Cursor) → inst < 2 ^ 32 → At rows inst c → c .halted ≡ false
       → recorded (cycle rows) (cycles inst) c ≡ recorded (live rows) (cycles inst) c
 
 -- a field for each group of 01's list
