@@ -24,9 +24,9 @@ use Rattle.interp.proofs.Laws.{alu-flags-lt}
 use Rattle.rv64i.specs.Manual.{low, sum, difference, Immediate, immediate, IsImmediate, immediate-value, ConstantShift, constant-shift, IsConstantShift, constant-shift-value, shamt, Operation, ADD, SUB, SLTU, XOR, OR, AND, operation, IsOperation, operation-value, IsLui, lui-value, Load, load, IsLoad, load-value, load-address, Store, store, IsStore, stored, store-address, Branch, BEQ, BNE, BLT, BGE, BLTU, BGEU, branch, IsBranch, taken, x-rs1, x-rs2, i-immediate, s-immediate}
 use Rattle.rv64i.specs.Agreement.{bytes, stateOf, after, shown, takenFlag, At, Accesses, Operates, Computes, Places, Loads, Stores, Branches, most, InWord}
 use Rattle.rv64i.proofs.Words.{minus-is, less-is, not-ltb, not-ltZ}
-use Rattle.rv64i.proofs.Cells.{state, registers, cell-read, past-31}
+use Rattle.rv64i.proofs.Cells.{state, registers, past-31}
 use Rattle.rv64i.proofs.Rows.{fields, decoded-as, immediate-is, no-shift, op-shift}
-use Rattle.rv64i.proofs.Steps.{Took, took, reads-first, reads-second, showing, at-next, done}
+use Rattle.rv64i.proofs.Steps.{Took, took, operand, showing, at-next, done}
 use Rattle.rv64i.proofs.Alu.{number-of, quiet, immediate-agrees, constant-agrees, operation-agrees}
 use Rattle.rv64i.proofs.Access.{load-agrees, load-quiet, width-agrees, store-agrees}
 
@@ -64,10 +64,10 @@ plain AND = refl
 module _ (rows : List ℕ) (inst : ℕ) (c : Cursor) (h : At rows inst c) where
   -- what the registers of the instruction hold
   first : cell (c .regs) (rs1 inst) ≡ x-rs1 inst (stateOf c)
-  first = cell-read (c .regs) (bytes (c .ram)) (rs1 inst) (omega arith) (h .zero)
+  first = operand rows inst c h (rs1 inst) (omega arith)
 
   second : cell (c .regs) (rs2 inst) ≡ x-rs2 inst (stateOf c)
-  second = cell-read (c .regs) (bytes (c .ram)) (rs2 inst) (omega arith) (h .zero)
+  second = operand rows inst c h (rs2 inst) (omega arith)
 
   first-lt : cell (c .regs) (rs1 inst) < 2 ^ 64
   first-lt = h .typed .reg-words (rs1 inst)
@@ -99,7 +99,7 @@ module _ (rows : List ℕ) (inst : ℕ) (c : Cursor) (h : At rows inst c) where
       record {
         goes-on = p .0;
         writes = p .1;
-        rs1-val = reads-first rows inst c h row t refl;
+        rs1-val = ap (λ (r : CycleRecord). r .«rs1_val») (t .record-of) ∙ first;
         shows = showing _ _ _ _ _ (t .record-of) first (rw (number-of w)) e;
       }
 
@@ -135,8 +135,8 @@ module _ (rows : List ℕ) (inst : ℕ) (c : Cursor) (h : At rows inst c) where
       record {
         goes-on = p .0;
         writes = p .1;
-        rs1-val = reads-first rows inst c h row t refl;
-        rs2-val = reads-second rows inst c h row t refl;
+        rs1-val = ap (λ (r : CycleRecord). r .«rs1_val») (t .record-of) ∙ first;
+        rs2-val = ap (λ (r : CycleRecord). r .«rs2_val») (t .record-of) ∙ second;
         shows = showing _ _ _ _ _ (t .record-of) first (rw (number-of (e .encoded .word)) second) v;
       }
 
@@ -187,7 +187,7 @@ module _ (rows : List ℕ) (inst : ℕ) (c : Cursor) (h : At rows inst c) where
       record {
         goes-on = p .0;
         writes = p .1;
-        rs1-val = reads-first rows inst c h row t refl;
+        rs1-val = ap (λ (r : CycleRecord). r .«rs1_val») (t .record-of) ∙ first;
         shows = showing _ _ _ _ _ (t .record-of) first refl (reached-is offset);
         accesses = accesses offset _ (t .record-of) refl refl;
       }
@@ -216,8 +216,8 @@ module _ (rows : List ℕ) (inst : ℕ) (c : Cursor) (h : At rows inst c) where
           zero = u .1;
         };
         state = ap₂ state (u .0) (ap (λ (d : Cursor). bytes (d .ram)) (t .cursor) ∙ m);
-        rs1-val = reads-first rows inst c h row t refl;
-        rs2-val = reads-second rows inst c h row t refl;
+        rs1-val = ap (λ (r : CycleRecord). r .«rs1_val») (t .record-of) ∙ first;
+        rs2-val = ap (λ (r : CycleRecord). r .«rs2_val») (t .record-of) ∙ second;
         shows = showing _ _ _ _ _ (t .record-of) first refl (reached-is offset);
         accesses = accesses offset _ (t .record-of) refl refl;
         src = ap (λ (r : CycleRecord). r .«store_src») (t .record-of) ∙ second;
@@ -243,8 +243,8 @@ module _ (rows : List ℕ) (inst : ℕ) (c : Cursor) (h : At rows inst c) where
         running = ap (λ (d : Cursor). d .halted) (t .cursor);
         state = ap₂ state (u .0) (ap (λ (d : Cursor). bytes (d .ram)) (t .cursor) ∙ rw (branch-quiet b));
         zero = u .1;
-        rs1-val = reads-first rows inst c h row t refl;
-        rs2-val = reads-second rows inst c h row t refl;
+        rs1-val = ap (λ (r : CycleRecord). r .«rs1_val») (t .record-of) ∙ first;
+        rs2-val = ap (λ (r : CycleRecord). r .«rs2_val») (t .record-of) ∙ second;
         shows = showing _ _ _ _ _ (t .record-of) first second (minus-is _ _ first-lt second-lt ∙ ap₂ difference first second);
         condition = ap takenFlag (t .record-of) ∙ flag-taken b ∙ v;
         not-taken = λ n. ap (λ (d : Cursor). d .«micro_pc») (t .cursor) ∙ rw (v, n) (ap at (at-next rows inst c (t .one)));

@@ -30,12 +30,12 @@ use Rattle.interp.specs.Calls.{end}
 use Rattle.interp.specs.Execute.{liveCount}
 use Rattle.interp.proofs.Halting.{count-live}
 use Rattle.interp.proofs.Runs.{end-suc}
-use Rattle.rv64i.specs.Manual.{reg, put, Shift, SLL, SRL, SRA, shift, IsShift, shift-value, x-rs1, x-rs2}
+use Rattle.rv64i.specs.Manual.{put, Shift, SLL, SRL, SRA, shift, IsShift, shift-value, x-rs1, x-rs2}
 use Rattle.rv64i.specs.Agreement.{bytes, stateOf, cycles, after, shown, At, Shifts}
 use Rattle.rv64i.proofs.Words.{signed-right-is}
-use Rattle.rv64i.proofs.Cells.{state, registers, cell-read, cell-write, past-0}
+use Rattle.rv64i.proofs.Cells.{state, registers, cell-write, past-0}
 use Rattle.rv64i.proofs.Rows.{fields, decoded-as, inside, row-at, op-shift, six-rows}
-use Rattle.rv64i.proofs.Steps.{redirect-not-0, showing}
+use Rattle.rv64i.proofs.Steps.{operand, redirect-not-0, showing}
 use Rattle.rv64i.proofs.Alu.{funct7-of}
 
 -- ---- the value
@@ -100,10 +100,6 @@ module _ (rows : List ℕ) (inst : ℕ) (c : Cursor) (h : At rows inst c) (w : W
   stage-row k l =
       row-at rows inst c h k (w .fits) (omega (arith, six))
       ∙ ap (λ (d : Inst). rowOfInst d k) (decoded-as OP inst (decodeOf inst .imm) w refl) ∙ rw s
-
-  -- what a register holds
-  operand : (r : ℕ) → r < 32 → cell (c .regs) r ≡ reg r (stateOf c)
-  operand r l = cell-read (c .regs) (bytes (c .ram)) r l (h .zero)
 
   -- the operands, and the accumulator after k stages
   abbrev a : ℕ
@@ -220,12 +216,12 @@ module _ (rows : List ℕ) (inst : ℕ) (c : Cursor) (h : At rows inst c) (w : W
     first-at : (k : ℕ) → k < 6 → cell (end (live rows) k c .regs) (rs1 inst) ≡ x-rs1 inst (stateOf c)
     first-at k l =
         ap (λ (cells : List ℕ). cell cells (rs1 inst)) (before k l .regs)
-        ∙ cell-kept (rs1 inst) (held k) (held-zero k) ∙ operand (rs1 inst) (omega arith)
+        ∙ cell-kept (rs1 inst) (held k) (held-zero k) ∙ operand rows inst c h (rs1 inst) (omega arith)
 
     second-at : (k : ℕ) → k < 6 → cell (end (live rows) k c .regs) (rs2 inst) ≡ x-rs2 inst (stateOf c)
     second-at k l =
         ap (λ (cells : List ℕ). cell cells (rs2 inst)) (before k l .regs)
-        ∙ cell-kept (rs2 inst) (held k) (λ e. absurd (omega arith)) ∙ operand (rs2 inst) (omega arith)
+        ∙ cell-kept (rs2 inst) (held k) (λ e. absurd (omega arith)) ∙ operand rows inst c h (rs2 inst) (omega arith)
 
     -- ---- the last stage
 
@@ -249,14 +245,14 @@ module _ (rows : List ℕ) (inst : ℕ) (c : Cursor) (h : At rows inst c) (w : W
     acc-is : (i : Shift) → IsShift i inst → (n : ℕ) → b % 2 ^ n % 2 ^ 6 ≡ b % 2 ^ n → acc n ≡ shift i .gives (x-rs1 inst (stateOf c)) (x-rs2 inst (stateOf c) % 2 ^ n)
     acc-is i e n m =
         ap (values.shift (manual.funct3 inst) inst a) (sym m) ∙ shift-agrees i inst a (b % 2 ^ n) e (h .typed .reg-words (rs1 inst))
-        ∙ ap₂ (λ (x y : ℕ). shift i .gives x (y % 2 ^ n)) (operand (rs1 inst) (omega arith)) (operand (rs2 inst) (omega arith))
+        ∙ ap₂ (λ (x y : ℕ). shift i .gives x (y % 2 ^ n)) (operand rows inst c h (rs1 inst) (omega arith)) (operand rows inst c h (rs2 inst) (omega arith))
 
     pub shifts-agree : (i : Shift) → IsShift i inst → Shifts rows inst c i
     unfolding stepAt armOf stageArm stageEffect commit recordOf regsAfter scratched ramAfter
     shifts-agree i e =
         let v : staged 5 fifth ≡ shift-value i inst (stateOf c) =
         later-value 5 fifth (omega arith) (omega arith) five ∙ shift-agrees i inst a b e (h .typed .reg-words (rs1 inst))
-        ∙ ap₂ (shift i .gives) (operand (rs1 inst) (omega arith)) (operand (rs2 inst) (omega arith)) in
+        ∙ ap₂ (shift i .gives) (operand rows inst c h (rs1 inst) (omega arith)) (operand rows inst c h (rs2 inst) (omega arith)) in
         record {
           running = ap (λ (d : Cursor). d .halted) cursor-is;
           next = ap (λ (d : Cursor). d .«micro_pc») cursor-is ∙ ap (λ (n : ℕ). at (n % length rows)) (omega (arith, five .pc, six));
