@@ -1,6 +1,7 @@
--- RV64I from the RISC-V Unprivileged ISA Manual alone, for the instructions of 01's list: the manual's chapters on the base
--- integer instruction sets, whose words are quoted, and its instruction set listings. Fields and immediates are in the
--- decoder's specs/Manual.antt. Nothing here knows rows, records or the source. Assumes nothing: these are definitions.
+-- RV64I as the RISC-V Unprivileged ISA Manual has it, for the instructions of 01's list: its chapters on the base integer
+-- instruction sets and its instruction set listings. No copy was at hand, so the words in quotation marks are from memory
+-- (docs/DECISIONS.md). Fields and immediates are in the decoder's specs/Manual.antt. Nothing here knows rows, records or
+-- the source. Assumes nothing: these are definitions.
 use mathlib.Core.Path.{_≡_}
 use Prim.Native.Nat.{ℕ, zero, suc, _+_, _-_, _*_, _/_, _%_, _^_}
 use mathlib.Core.Bool.{Bool, cond, not}
