@@ -145,6 +145,8 @@ fn every_kind_of_undefined_encoding() {
         (0x7f, 7),
         (0x03, 7),
         (0x13, 1),
+        (0x1b, 1),
+        (0x3b, 0),
     ];
     let wanted = wanted.into_iter();
     let wanted = wanted.chain(reserved.map(|funct3| (0x1b, funct3)));

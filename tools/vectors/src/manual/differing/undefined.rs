@@ -21,12 +21,14 @@ fn registers() -> Vec<Difference> {
     let register = |word| shown(Register(2), Undefined, &[word], &[(1, 6), (2, 3)], &[]);
     let immediate = |word| shown(Register(1), Undefined, &[word], &[(1, 6)], &[]);
     let others = OTHER_FORMS.map(|(funct7, funct3)| register(op(funct7, funct3, [2, 1, 2])));
-    // slli with a bit above its amount
-    let shift = [immediate(op_imm(1, [1, 1], 0x81))];
+    // slli and slliw with a bit above their amount, and mulw
+    let shifts = [op_imm(1, [1, 1], 0x81), op_imm32(1, [1, 1], 0x81)].map(immediate);
+    let mulw = register(op32(1, 0, [2, 1, 2]));
     let words = RESERVED.map(|funct3| immediate(op_imm32(funct3, [1, 1], 5)));
     let register_words = RESERVED.map(|funct3| register(op32(0, funct3, [2, 1, 2])));
     let words = words.into_iter().chain(register_words);
-    others.into_iter().chain(shift).chain(words).collect()
+    let others = others.into_iter().chain(shifts);
+    others.chain(words).chain([mulw]).collect()
 }
 
 /// The load and the stores have 8 bytes.
