@@ -319,11 +319,7 @@ mod tests {
 
     #[test]
     fn only_digits_of_what_must_show_are_tried() {
-        let tried = |line: &str, to| {
-            let columns = 0..line.len() - 1;
-            let chosen = columns.filter(|&column| tries(line.as_bytes(), column, to));
-            chosen.collect::<Vec<_>>()
-        };
+        let tried = |line, to| CALLS.tried(line, to);
         assert_eq!(tried("c a 10\n", b'f'), [2, 4, 5]);
         assert_eq!(tried("c a 10\n", b'g'), []);
         assert_eq!(tried("w 13\n", b'5'), []);

@@ -75,6 +75,14 @@ impl ListKind {
         found
     }
 
+    /// The columns of a line, without its line feed, at which this change is tried.
+    #[cfg(test)]
+    pub fn tried(&self, line: &str, to: u8) -> Vec<usize> {
+        let columns = 0..line.len() - 1;
+        let tried = columns.filter(|&column| (self.tries)(line.as_bytes(), column, to));
+        tried.collect()
+    }
+
     fn check(&self, bytes: &[u8]) -> Result<(), String> {
         if bytes.is_empty() {
             return Err("the list is empty".to_string());

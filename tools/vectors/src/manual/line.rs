@@ -238,11 +238,7 @@ mod tests {
 
     #[test]
     fn only_digits_of_what_must_show_are_tried() {
-        let tried = |line: &str, to| {
-            let columns = 0..line.len() - 1;
-            let chosen = columns.filter(|&column| tries(line.as_bytes(), column, to));
-            chosen.collect::<Vec<_>>()
-        };
+        let tried = |line, to| MANUAL.tried(line, to);
         assert_eq!(tried("a 1 10\n", b'f'), [2, 4, 5]);
         assert_eq!(tried("d 1 1\n", b'g'), []);
         assert_eq!(tried("p 2 a\n", b'0'), [2, 4]);
