@@ -1,8 +1,8 @@
 //! One loop run in segments, timed in the Rust and in the library.
 
 use crate::mix::timed;
-use magnetar_native::testing::{image_of, pack, Expansion};
-use magnetar_native::{padding, segment, start, Cursor, Refusal, RECORD_WORDS};
+use differential::{image_of, pack, Expansion};
+use magnetar_cpu::{padding, segment, start, Cursor, Refusal, RECORD_WORDS};
 use magnetar_source::expand::{expand_program, ExpandedProgram};
 use magnetar_source::interp::{CycleRecord, StreamCursor};
 use std::hint::black_box;

@@ -3,9 +3,9 @@
 mod machine;
 mod mix;
 
+use differential::{ordinary_word, program, register_shift, Rng};
 use machine::{Machine, LOOPS};
-use magnetar_native::testing::{ordinary_word, program, register_shift, Rng};
-use magnetar_native::MAX_WORDS;
+use magnetar_cpu::MAX_WORDS;
 use mix::Mix;
 use std::env;
 use std::process::ExitCode;

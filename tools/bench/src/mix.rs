@@ -1,7 +1,7 @@
 //! One program, timed in the Rust and in the library.
 
-use magnetar_native::testing::Expansion;
-use magnetar_native::{expand, is_expansion};
+use differential::Expansion;
+use magnetar_cpu::{expand, is_expansion};
 use magnetar_source::expand::expand_program;
 use std::hint::black_box;
 use std::time::{Duration, Instant};

@@ -4,7 +4,7 @@
 use crate::lending::{image_mut, Lending};
 use crate::lent::GUARDS;
 use crate::lists::{noticed, ENOUGH};
-use magnetar_native::{Cursor, RECORD_WORDS};
+use magnetar_cpu::{Cursor, RECORD_WORDS};
 
 const MOST_CYCLES: u128 = 1 << 62;
 

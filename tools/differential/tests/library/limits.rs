@@ -1,10 +1,10 @@
 //! The longest programs, and buffers that are exactly full, one short or empty.
 
 use crate::memory::{verdict, Memory};
-use magnetar_native::testing::{
+use differential::{
     ordinary_word, program, register_shift, stage_word, Expansion, Rng, ADDI, SLL, STAGES,
 };
-use magnetar_native::{expand, Refusal, MAX_WORDS};
+use magnetar_cpu::{expand, Refusal, MAX_WORDS};
 
 /// The answer, everything compared, for buffers of these lengths.
 fn answer(program: &[u32], expansion: &Expansion, rows: usize, starts: usize) -> u64 {

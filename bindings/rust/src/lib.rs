@@ -4,7 +4,6 @@
 //! so its pointers are never null and always aligned, also where a length is 0.
 
 mod cursor;
-pub mod testing;
 
 pub use cursor::{Cursor, Image};
 use std::error::Error;

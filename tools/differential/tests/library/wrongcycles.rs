@@ -3,8 +3,8 @@
 
 use crate::lending::{image_mut, Lending};
 use crate::lists::{noticed, ENOUGH};
-use magnetar_native::testing::{cursor_of, image_of, pack, refusal, run_source, Call, STAGES};
-use magnetar_native::RECORD_WORDS;
+use differential::{cursor_of, image_of, pack, refusal, run_source, Call, STAGES};
+use magnetar_cpu::RECORD_WORDS;
 use magnetar_source::expand::{ExpandedProgram, RomRow, VirtualKind};
 use magnetar_source::interp::{CycleRecord, StreamCursor};
 

@@ -3,9 +3,7 @@
 
 use crate::memory::verdict;
 use crate::random::any_word;
-use magnetar_native::testing::{
-    program, register_shift, stage_word, Expansion, Rng, Rom, ADDI, SLL, STAGES,
-};
+use differential::{program, register_shift, stage_word, Expansion, Rng, Rom, ADDI, SLL, STAGES};
 
 const DAMAGES: usize = 40_000;
 const LONGEST: usize = 12;

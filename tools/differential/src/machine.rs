@@ -1,7 +1,7 @@
 //! Segment and padding calls, by the table of refusals and the unchanged Rust.
 
-use super::row_word;
-use crate::{Cursor, Image, RECORD_WORDS};
+use crate::row_word;
+use magnetar_cpu::{Cursor, Image, RECORD_WORDS};
 use magnetar_source::expand::{expand_program, ExpandedProgram};
 use magnetar_source::interp::{pad_records, CycleRecord, ExecState, StreamCursor};
 pub use records::pack;
@@ -128,8 +128,8 @@ pub fn image_of(cursor: &StreamCursor) -> Image {
 
 #[cfg(test)]
 mod tests {
-    use super::super::{program, register_shift, Rng, ADDI, SLL};
     use super::*;
+    use crate::{program, register_shift, Rng, ADDI, SLL};
 
     const ECALL: u32 = 0x0000_0073;
     /// The records of `ADDI` and `ECALL` that the specification prints.

@@ -3,8 +3,8 @@
 use crate::lending::Lending;
 use crate::random::any_word;
 use crate::rows::damage;
-use magnetar_native::testing::{image_of, known_word, live_word, program, Call, Rng, Rom};
-use magnetar_native::{segment, start, Cursor, Image, RECORD_WORDS};
+use differential::{image_of, known_word, live_word, program, Call, Rng, Rom};
+use magnetar_cpu::{segment, start, Cursor, Image, RECORD_WORDS};
 use magnetar_source::interp::StreamCursor;
 
 const LISTS: u64 = 20_000;

@@ -1,7 +1,7 @@
 //! Random programs into buffers of about the right length.
 
 use crate::memory::{verdict, Memory};
-use magnetar_native::testing::{known_word, near_shift, program, register_shift, Expansion, Rng};
+use differential::{known_word, near_shift, program, register_shift, Expansion, Rng};
 
 const PROGRAMS: usize = 4000;
 const LONGEST: usize = 60;

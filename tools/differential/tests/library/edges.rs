@@ -2,11 +2,9 @@
 
 use crate::lending::{image_mut, Lending};
 use crate::lent::Lent;
-use magnetar_native::testing::{
-    image_of, program, register_shift, stage_word, Call, Rng, Rom, ADDI, SLL,
-};
-use magnetar_native::{padding, segment, start, start_image};
-use magnetar_native::{Cursor, Image, Refusal, MAX_ROWS, MAX_WORDS, RECORD_WORDS};
+use differential::{image_of, program, register_shift, stage_word, Call, Rng, Rom, ADDI, SLL};
+use magnetar_cpu::{padding, segment, start, start_image};
+use magnetar_cpu::{Cursor, Image, Refusal, MAX_ROWS, MAX_WORDS, RECORD_WORDS};
 use magnetar_source::interp::StreamCursor;
 
 const CALLS: [Call; 2] = [Call::Segment, Call::Padding];

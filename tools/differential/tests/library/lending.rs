@@ -2,8 +2,8 @@
 //! the comparison of all of it with the model.
 
 use crate::lent::Lent;
-use magnetar_native::testing::{model, Call, Rng, Rom};
-use magnetar_native::{padding_image, segment_image, Image};
+use differential::{model, Call, Rng, Rom};
+use magnetar_cpu::{padding_image, segment_image, Image};
 
 #[derive(Clone)]
 pub struct Lending<'a> {

@@ -1,6 +1,6 @@
 //! Words that are lent to a call, with guard words around them.
 
-use magnetar_native::testing::Rng;
+use differential::Rng;
 use std::fmt::LowerHex;
 
 pub const GUARDS: usize = 8;

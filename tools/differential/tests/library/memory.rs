@@ -2,8 +2,8 @@
 //! all of it with what the unchanged Rust says must be there.
 
 use crate::lent::{Lent, GUARDS};
-use magnetar_native::testing::{Expansion, Rng, ADDI, SLL};
-use magnetar_native::{expand_counting, is_expansion};
+use differential::{Expansion, Rng, ADDI, SLL};
+use magnetar_cpu::{expand_counting, is_expansion};
 
 /// All that is lent to an expansion.
 #[derive(Clone)]
