@@ -1,12 +1,17 @@
 -- What an answer of the layer below becomes in words. Assumes nothing.
-use mathlib.Core.Path.{_≡_, refl, sym, ap, _∙_}
+use mathlib.Core.Path.{_≡_, refl, sym, ap, ap₂, _∙_}
+use mathlib.Core.Logic.{_≢_}
+use mathlib.Core.List.{List}
 use Prim.Native.Nat.{ℕ}
+use borrow.Author.Tests.{ne-eqb}
 use Rattle.expand.specs.Expand.{numberOf, Told, toldOf}
 use Rattle.expand.specs.declared.Expanded.{Expanded}
 use Rattle.expand.specs.declared.Expanded.the-variants.{Rows, Refused}
 use Rattle.expand.specs.declared.Refusal.{Refusal}
 use Rattle.expand.specs.declared.Refusal.the-variants.{Empty, TooLong, Short}
-use Rattle.magnetar_cpu.specs.Words.{countAfter}
+use Rattle.interp.specs.declared.Cursor.{Cursor}
+use Rattle.magnetar_cpu.specs.Words.{leftAfter, countAfter}
+use Rattle.magnetar_cpu.specs.Image.{imageOf}
 
 -- the number and the count's word, of an answer r that tells t
 module _ (r : Expanded) (t : Told) (count : ℕ) (tells : toldOf r ≡ t) where
@@ -24,3 +29,15 @@ module _ (r : Expanded) (t : Told) (count : ℕ) (tells : toldOf r ≡ t) where
       kept Empty = refl
       kept TooLong = refl
       kept Short = refl
+
+-- what `settle` answers and leaves, of an outcome n and a cursor that are known to be those of a call's answer
+pub told : {r n number : ℕ} {after cursor : Cursor} {left : List ℕ} (image : List ℕ) → n ≡ number → after ≡ cursor
+    → (r ≡ n) × (left ≡ leftAfter n (imageOf after) image) → (r ≡ number) × (left ≡ leftAfter number (imageOf cursor) image)
+told image hn hc h = (h .0 ∙ hn, h .1 ∙ ap₂ (λ (n : ℕ) (c : Cursor). leftAfter n (imageOf c) image) hn hc)
+
+-- a lent word after a call that answered r: an accepted one, and a refused one
+pub new-left : {r n : ℕ} → r ≡ n → r ≡ 0 → (new old : ℕ) → new ≡ leftAfter n new old
+new-left told accepted new old = rw (← told, accepted) refl
+
+pub old-left : {r n : ℕ} → r ≡ n → r ≢ 0 → (new old : ℕ) → old ≡ leftAfter n new old
+old-left {r} told refused new old = rw (← told, ne-eqb r 0 refused) refl

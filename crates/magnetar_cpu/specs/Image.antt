@@ -1,14 +1,19 @@
 -- A cursor's image, its 325 words: registers at 0 to 63, RAM at 64 to 319, then micro_pc, cycles, halted, output and
 -- next_fetch. Assumes nothing: these are definitions.
 use Prim.Native.Nat.{ℕ}
-use mathlib.Core.Bool.{not, cond}
+use mathlib.Core.Bool.{not}
 use mathlib.Core.List.{List, [], _∷_, _++_}
 use lib.Dec.{eqb}
 use lib.ListN.{take, drop, getD}
 use Rattle.interp.specs.declared.Cursor.{Cursor}
 use Rattle.interp.specs.Machine.{at}
 use Rattle.interp.specs.Calls.{Answered}
-use Rattle.magnetar_cpu.specs.Words.{wordOf}
+use Rattle.interp.specs.Execute.{Executed}
+use Rattle.magnetar_cpu.specs.Words.{wordOf, leftAfter}
+
+-- the words of an image
+abbrev pub imageWords : ℕ
+imageWords = 325
 
 -- the cursor that an image stands for; any halted word but 0 is a halted machine
 unfoldable pub cursorOf : List ℕ → Cursor
@@ -32,4 +37,8 @@ imageOf c =
 
 -- an image after a call with this answer: the answer's cursor, or after a refusal the image as it was
 abbrev pub imageAfter : Answered → List ℕ → List ℕ
-imageAfter answer image = cond (eqb (answer .number) 0) (imageOf (answer .cursor)) image
+imageAfter answer image = leftAfter (answer .number) (imageOf (answer .cursor)) image
+
+-- the same of an execution
+abbrev pub executedImage : Executed → List ℕ → List ℕ
+executedImage answer image = leftAfter (answer .number) (imageOf (answer .cursor)) image

@@ -3,11 +3,24 @@ use Prim.Native.Nat.{ℕ}
 use mathlib.Core.Bool.{Bool, cond}
 use lib.Dec.{eqb}
 use Rattle.expand.specs.Expand.{Told}
+use Rattle.interp.specs.Execute.{Executed}
 
 -- a truth value as a word
 abbrev pub wordOf : Bool → ℕ
 wordOf b = cond b 1 0
 
--- a lent word that gets the count of an accepted answer; after a refusal it is as before
+-- what stands behind a lent pointer after a call that answers this number: if it is 0 the new content, else the old
+abbrev pub leftAfter : {A : Type 0} → ℕ → A → A → A
+leftAfter number new old = cond (eqb number 0) new old
+
+-- the word lent for the count of rows
 abbrev pub countAfter : Told → ℕ → ℕ
-countAfter answer count = cond (eqb (answer .number) 0) (answer .count) count
+countAfter answer count = leftAfter (answer .number) (answer .count) count
+
+-- the word lent for the live count of an execution
+abbrev pub liveAfter : Executed → ℕ → ℕ
+liveAfter answer live = leftAfter (answer .number) (answer .live) live
+
+-- the word lent for the record count of an execution
+abbrev pub recordCountAfter : Executed → ℕ → ℕ
+recordCountAfter answer count = leftAfter (answer .number) (answer .count) count

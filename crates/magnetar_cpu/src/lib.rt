@@ -2,20 +2,20 @@
 // where the length is 0; buffers lent to one call do not overlap. Where a call can be refused, 0 is accepted and any other
 // number a refusal of document 01's table, after which nothing behind any pointer has changed.
 ghost use mathlib.Core.Path.{_≡_};
-ghost use mathlib.Core.Bool.{cond};
 ghost use Prim.Native.Nat.{_+_, _≤_};
-ghost use lib.Dec.{eqb};
 ghost use lib.ListN.{length, drop};
 ghost use lib.Seq.{paste};
 ghost use Rattle.expand.specs.Expand.{answerOf, rowsAfter, startsAfter, isExpansion};
 ghost use Rattle.interp.specs.Machine.{startOf};
 ghost use Rattle.interp.specs.Calls.{segment, padded, outcomeNumber};
 ghost use Rattle.interp.specs.Calls as calls;
-ghost use Rattle.magnetar_cpu.specs.Words.{wordOf, countAfter};
-ghost use Rattle.magnetar_cpu.specs.Image.{cursorOf, imageOf, imageAfter};
+ghost use Rattle.interp.specs.Execute.{executeOf};
+ghost use Rattle.checkpoint.specs.Checkpoint.{sameOf};
+ghost use Rattle.magnetar_cpu.specs.Words.{wordOf, leftAfter, countAfter, liveAfter, recordCountAfter};
+ghost use Rattle.magnetar_cpu.specs.Image.{imageWords, cursorOf, imageOf, imageAfter, executedImage};
+ghost use Rattle.magnetar_cpu.specs.Claims.{ImageLaws};
 use expand::Expanded;
 use expand::MicroPc;
-use interp::Answer;
 use interp::Cursor;
 use interp::Outcome;
 
@@ -111,16 +111,14 @@ fn write_cursor(c: Cursor, image: &mut [u64; IMAGE_WORDS])
     image[NEXT_FETCH] = c.next_fetch.0 as u64;
 }
 
-// The number of an answer. If it is 0, the answer's cursor goes to `image`; if not, `image` stays as it was.
-fn settle(answer: Answer, image: &mut [u64; IMAGE_WORDS]) -> u64
-    ensures { λ r. ⌜ r ≡ outcomeNumber (answer .outcome) ⌝ }
-    ensures { λ _. ⌜ now (image .exit) ≡ cond (eqb (outcomeNumber (answer .outcome)) 0) (imageOf (answer .cursor)) (now (image .entry)) ⌝ }
+// The number of an outcome. If it is 0, the cursor goes to `image`; if not, `image` stays as it was.
+fn settle(outcome: Outcome, after: Cursor, image: &mut [u64; IMAGE_WORDS]) -> u64
+    ensures { λ r. ⌜ r ≡ outcomeNumber outcome ⌝ }
+    ensures { λ _. ⌜ now (image .exit) ≡ leftAfter (outcomeNumber outcome) (imageOf after) (now (image .entry)) ⌝ }
 {
-    let outcome = answer.outcome;
     if let Outcome::Refused(e) = outcome {
         return e.number();
     }
-    let after = answer.cursor;
     write_cursor(after, image);
     0
 }
@@ -150,7 +148,10 @@ pub extern "C" fn magnetar_segment(
     ensures records { λ r. ⌜ now (records .exit) ≡ calls.answerOf (now (rows .entry)) (cursorOf (now (cursor .entry))) (segment length (now (records .entry))) .buffer ⌝ }
 {
     let before = read_cursor(cursor);
-    settle(interp::run_segment(rows, before, length, records), cursor)
+    let answer = interp::run_segment(rows, before, length, records);
+    let outcome = answer.outcome;
+    let after = answer.cursor;
+    settle(outcome, after, cursor)
 }
 
 // The padding call: `length` padding cycles at row next_fetch, also on a live machine. Records, cursor and refusals are
@@ -167,5 +168,70 @@ pub extern "C" fn magnetar_padding(
     ensures records { λ r. ⌜ now (records .exit) ≡ calls.answerOf (now (rows .entry)) (cursorOf (now (cursor .entry))) (padded length (now (records .entry))) .buffer ⌝ }
 {
     let before = read_cursor(cursor);
-    settle(interp::pad_records(rows, before, length, records), cursor)
+    let answer = interp::pad_records(rows, before, length, records);
+    let outcome = answer.outcome;
+    let after = answer.cursor;
+    settle(outcome, after, cursor)
 }
+
+// Execute: from the fresh cursor of `input`, live cycles until the machine halts, at most `max_cycles`, and then padding up to
+// the smallest power of two that is at least 1 and the live count. The records go to the first places of `records`, the cursor
+// after them to `cursor`, the live count to `live` and the count of records to `record_count`. 1: no rows; 2: more than
+// 6,291,456 rows; 3: the rows are not the expansion of a program; 5: `max_cycles` is over 2^32; 6: `records` has fewer than 17
+// words for each record that `max_cycles` live cycles would need.
+#[no_mangle]
+pub extern "C" fn magnetar_execute(
+    rows: &[u64],
+    input: &[u64],
+    max_cycles: u64,
+    records: &mut [u64],
+    cursor: &mut [u64; IMAGE_WORDS],
+    live: &mut u64,
+    record_count: &mut u64,
+) -> u64
+    ensures answer { λ r. ⌜ r ≡ executeOf (now (rows .entry)) (now (input .entry)) «max_cycles» (now (records .entry)) .number ⌝ }
+    ensures live { λ r. ⌜ now (live .exit) ≡ liveAfter (executeOf (now (rows .entry)) (now (input .entry)) «max_cycles» (now (records .entry))) (now (live .entry)) ⌝ }
+    ensures count { λ r. ⌜ now («record_count» .exit) ≡ recordCountAfter (executeOf (now (rows .entry)) (now (input .entry)) «max_cycles» (now (records .entry))) (now («record_count» .entry)) ⌝ }
+    ensures cursor { λ r. ⌜ now (cursor .exit) ≡ executedImage (executeOf (now (rows .entry)) (now (input .entry)) «max_cycles» (now (records .entry))) (now (cursor .entry)) ⌝ }
+    ensures records { λ r. ⌜ now (records .exit) ≡ executeOf (now (rows .entry)) (now (input .entry)) «max_cycles» (now (records .entry)) .buffer ⌝ }
+{
+    let answer = interp::execute(rows, input, max_cycles, records);
+    let outcome = answer.outcome;
+    let after = answer.cursor;
+    let number = settle(outcome, after, cursor);
+    if number == 0 {
+        *live = answer.live_count;
+        *record_count = answer.record_count;
+    }
+    number
+}
+
+// ---- images
+
+// 1 if the two cursors are the same checkpoint, else 0: micro_pc, halted, output, registers 1 to 63 and RAM agree. Any two
+// halted words but 0 agree.
+#[no_mangle]
+pub extern "C" fn magnetar_same(a: &[u64; IMAGE_WORDS], b: &[u64; IMAGE_WORDS]) -> u64
+    ensures { λ r. ⌜ r ≡ wordOf (sameOf (cursorOf (now (a .entry))) (cursorOf (now (b .entry)))) ⌝ }
+{
+    let first = read_cursor(a);
+    let second = read_cursor(b);
+    if checkpoint::same_checkpoint(first, second) {
+        1
+    } else {
+        0
+    }
+}
+
+// The words of a cursor's image, for a caller who compares them with his header.
+#[no_mangle]
+pub extern "C" fn magnetar_cursor_words() -> u64
+    ensures { λ r. ⌜ r ≡ imageWords ⌝ }
+{
+    IMAGE_WORDS as u64
+}
+
+// What is claimed of images (specs/Claims.antt). The function does nothing; its contract is the claim.
+pub fn image_laws()
+    ensures { λ r. ⌜ ImageLaws ⌝ }
+{}

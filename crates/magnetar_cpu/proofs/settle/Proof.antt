@@ -9,7 +9,7 @@ returns : tie.Need-returns
 returns c = let told = c .before .before .outcome .given .1 in (rw told (c .number .ensures), rw (told, never-zero) refl)
 
 returns-2 : tie.Need-returns-2
-returns-2 c = let told = c .before .before .before .enum-told .given .1 in (rw told refl, rw told (c .write-cursor .ensures))
+returns-2 c = let told = c .before .before .enum-told .given .1 in (rw told refl, rw told (c .write-cursor .ensures))
 
 pub settle-spec : {M : Type 1} → statement M
 settle-spec =
