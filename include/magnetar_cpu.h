@@ -140,8 +140,8 @@ extern "C" {
 /* ---- functions */
 
 /*
- * Expands a program. A word gives one row, a register shift (SLL, SRL, SRA)
- * six; a row is the word plus 2^32 times its stage, 0 to 5.
+ * Expands a program. A word gives one row, a register shift (opcode 0x33 with
+ * funct3 1 or 5) six; a row is the word plus 2^32 times its stage, 0 to 5.
  *
  * Refused: 1 if program_len is 0; 2 if it is over MAGNETAR_MAX_PROGRAM_WORDS;
  * 6 if rows_len is below the count of rows or starts_len below program_len.

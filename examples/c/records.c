@@ -1,7 +1,7 @@
 /*
- * Records a billing rule and prints what the program `trace` prints. Before
- * that it runs the rule again in segments of a few cycles: they must give the
- * same records and end at the same checkpoint.
+ * Records a billing rule in one call, then again in segments of a few cycles,
+ * which must give the same records and the same checkpoint, and prints what the
+ * program `trace` prints.
  *
  *     cc -std=c99 -O2 -Iinclude -o records examples/c/records.c target/staticlib/libmagnetar_cpu.a
  *     ./records examples/tariff.bin 64 1200 1350
@@ -15,7 +15,7 @@
 
 #define SEGMENT 4
 
-/* A word more than is accepted, so that a longer rule is refused and not cut. */
+/* Room for the longest rule, and a word more, so that a longer one is refused and not cut. */
 static uint32_t program[MAGNETAR_MAX_PROGRAM_WORDS + 1];
 static uint64_t rows[MAGNETAR_MAX_ROWS], starts[MAGNETAR_MAX_PROGRAM_WORDS];
 
