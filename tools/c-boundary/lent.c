@@ -173,7 +173,7 @@ static uint64_t element(const unsigned char *at, size_t unit)
 /* The first wrong element, or the last of all: its place counts from what was lent. */
 static void check_pages(const struct slot *slot)
 {
-    size_t at = 0, last = room - slot->unit;
+    size_t last = room - slot->unit, at = memcmp(slot->pages, slot->wanted, room) == 0 ? last : 0;
     while (at < last && memcmp(slot->pages + at, slot->wanted + at, slot->unit) == 0)
         at += slot->unit;
     char place[100];

@@ -73,7 +73,8 @@ static void longest_program(uint64_t *rows)
     mark(rows, MOST_ROWS);
     mark(starts, MOST_WORDS);
     begin(AT_LAST_WORD, "magnetar_expand", "the most words and one more");
-    check("answer", magnetar_expand(program, MOST_WORDS + 1, rows, MOST_ROWS, starts, MOST_WORDS, &count), 2);
+    check("answer", magnetar_expand(program, MOST_WORDS + 1, rows, MOST_ROWS, starts, MOST_WORDS, &count),
+          MAGNETAR_TOO_MANY_ROWS);
     begin(AT_LAST_WORD, "magnetar_expand", "the most words, rows one short");
     check("answer", magnetar_expand(program + 1, MOST_WORDS, rows + 1, MOST_ROWS - 1, starts, MOST_WORDS, &count), 6);
     check("rows that changed", others(rows, MOST_ROWS, MARK, 1), 0);
@@ -116,17 +117,18 @@ static void too_many_rows(const uint64_t *rows, const char *text, uint64_t micro
     begin(AT_LAST_WORD, "magnetar_segment", text);
     uint64_t *cursor = lend_room("cursor", image, MAGNETAR_CURSOR_WORDS);
     uint64_t *records = lend_room("records", NULL, room);
-    end(magnetar_segment(rows, MOST_ROWS + 1, cursor, length, records, room), 2);
+    end(magnetar_segment(rows, MOST_ROWS + 1, cursor, length, records, room), MAGNETAR_TOO_MANY_ROWS);
     begin(AT_LAST_WORD, "magnetar_padding", text);
     cursor = lend_room("cursor", image, MAGNETAR_CURSOR_WORDS);
     records = lend_room("records", NULL, room);
-    end(magnetar_padding(rows, MOST_ROWS + 1, cursor, length, records, room), 2);
+    end(magnetar_padding(rows, MOST_ROWS + 1, cursor, length, records, room), MAGNETAR_TOO_MANY_ROWS);
     begin(AT_LAST_WORD, "magnetar_execute", text);
     cursor = lend_room("cursor", NULL, MAGNETAR_CURSOR_WORDS);
     records = lend_room("records", NULL, room);
     const uint64_t *input = lend_words("input", image, 1);
     uint64_t *live = lend_room("live", NULL, 1), *count = lend_room("record_count", NULL, 1);
-    end(magnetar_execute(rows, MOST_ROWS + 1, input, 1, length, records, room, cursor, live, count), 2);
+    end(magnetar_execute(rows, MOST_ROWS + 1, input, 1, length, records, room, cursor, live, count),
+        MAGNETAR_TOO_MANY_ROWS);
 }
 
 /* Records for 2^32 cycles are 544 GiB: lent as memory that is made when it is touched, and only four records are. */

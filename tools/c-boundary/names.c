@@ -39,4 +39,6 @@ void name_cases(void)
         name_case(&cases[i]);
     begin(AMID_GUARDS, "magnetar_cursor_words", "the header's words");
     check("answer", magnetar_cursor_words(), MAGNETAR_CURSOR_WORDS);
+    check("the registers' end", MAGNETAR_CURSOR_REGS + MAGNETAR_REGS, MAGNETAR_CURSOR_RAM);
+    check("RAM's end", MAGNETAR_CURSOR_RAM + MAGNETAR_RAM_WORDS, MAGNETAR_CURSOR_MICRO_PC);
 }
