@@ -207,7 +207,7 @@ static void start_cases(enum placement placement)
         fresh_image(image, input, lengths[i]);
         expect(cursor, image, MAGNETAR_CURSOR_WORDS);
         magnetar_start(lent, lengths[i], cursor);
-        end(0, 0);
+        check_lent();
     }
 }
 

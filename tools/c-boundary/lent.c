@@ -182,11 +182,16 @@ static void check_pages(const struct slot *slot)
     check(place, element(slot->pages + at, slot->unit), element(slot->wanted + at, slot->unit));
 }
 
+void check_lent(void)
+{
+    for (size_t i = 0; i < used; i++)
+        check_pages(&slots[i]);
+}
+
 void end(uint64_t answer, uint64_t wanted)
 {
     check("answer", answer, wanted);
-    for (size_t i = 0; i < used; i++)
-        check_pages(&slots[i]);
+    check_lent();
 }
 
 int report(unsigned long least)

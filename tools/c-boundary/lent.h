@@ -32,7 +32,10 @@ void expect(const uint64_t *lent, const uint64_t *words, size_t n);
 /* One check. */
 void check(const char *place, uint64_t found, uint64_t wanted);
 
-/* Ends a case: the answer, and a check of the pages of each buffer, whether lent words or guards. */
+/* A check of all that is lent: one for the pages of each buffer, lent words and guards alike. */
+void check_lent(void);
+
+/* Ends a case: the answer, and all that is lent. */
 void end(uint64_t answer, uint64_t wanted);
 
 /* Says how many checks there were: the exit status, 1 if one failed or if there were fewer than `least`. */

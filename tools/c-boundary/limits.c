@@ -107,7 +107,7 @@ static void most_rows(const uint64_t *rows)
     check("micro_pc", image[MAGNETAR_CURSOR_MICRO_PC], 2);
 }
 
-/* 2 comes before all that the words in `text` name. */
+/* The other refusals that are met, as `text` says, have higher numbers. */
 static void too_many_rows(const uint64_t *rows, const char *text, uint64_t micro_pc, uint64_t length, size_t room)
 {
     uint64_t image[MAGNETAR_CURSOR_WORDS];
@@ -141,9 +141,12 @@ static void most_cycles(void)
         return;
     }
     uint64_t *records = end - room, live = MARK, count = MARK;
+    mark(image, MAGNETAR_CURSOR_WORDS);
     begin(AT_LAST_WORD, "magnetar_execute", "2^32 cycles, one word short");
     check("answer", magnetar_execute(rule, RULE_ROWS, rule, 0, TWO(32), records + 1, room - 1, image, &live, &count), 6);
     check("records that changed", others(records, 5 * MAGNETAR_RECORD_WORDS, 0, 0), 0);
+    check("cursor's words that changed", others(image, MAGNETAR_CURSOR_WORDS, MARK, 1), 0);
+    check("counts that changed", others(&live, 1, MARK, 0) + others(&count, 1, MARK, 0), 0);
     begin(AT_LAST_WORD, "magnetar_execute", "2^32 cycles");
     check("answer", magnetar_execute(rule, RULE_ROWS, rule, 0, TWO(32), records, room, image, &live, &count), 0);
     check("live", live, 3);
@@ -158,7 +161,7 @@ static void most_cycles(void)
 
 void limit_cases(void)
 {
-    /* The last row but one of these is the last of the longest program. */
+    /* Room for one row more than a call takes: the first place is for that row. */
     uint64_t *rows = (uint64_t *)needed(end_of_memory(8 * (MOST_ROWS + 1))) - (MOST_ROWS + 1);
     longest_program(rows + 1);
     most_rows(rows + 1);
