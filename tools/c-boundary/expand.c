@@ -2,8 +2,6 @@
 #include "cases.h"
 #include "rule.h"
 
-#define ADDI 0x00500513
-#define SLL 0x002091b3
 #define STAGE(k) (SLL + TWO(32) * (k))
 
 /* Its words are cut to those that a case lends. */

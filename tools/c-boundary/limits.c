@@ -8,8 +8,6 @@
 #include <sys/mman.h>
 #include <unistd.h>
 
-#define ADDI 0x00500513
-#define SLL 0x002091b3
 #define MOST_WORDS MAGNETAR_MAX_PROGRAM_WORDS
 #define MOST_ROWS MAGNETAR_MAX_ROWS
 #define STAGES MAGNETAR_ROWS_PER_WORD

@@ -17,7 +17,7 @@ static const struct name {
     {"slli x1, x2, 1", 0x00111093, 2004, 0, 0, MAGNETAR_FLAG_WE | MAGNETAR_FLAG_IS_SHIFT},
     {"beq x0, x0, 0", 0x00000063, 0, 0, 0,
      MAGNETAR_FLAG_BRANCH_TAKEN | MAGNETAR_FLAG_IS_ARITH | MAGNETAR_FLAG_IS_SUB_OP},
-    {"ecall", 0x00000073, 0, 0, 0, MAGNETAR_FLAG_HALTED_LATCH},
+    {"ecall", ECALL, 0, 0, 0, MAGNETAR_FLAG_HALTED_LATCH},
 };
 
 static void name_case(const struct name *c)

@@ -1,11 +1,6 @@
 #include "rule.h"
 #include <string.h>
 
-#define ADDI 0x00500513
-#define SD 0x00a03423
-#define ECALL 0x00000073
-#define SLL 0x002091b3
-
 const uint64_t rule[RULE_ROWS] = {ADDI, SD, ECALL};
 const uint64_t odd_rows[1] = {SLL + TWO(32)};
 

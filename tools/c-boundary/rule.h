@@ -4,7 +4,13 @@
 
 #include "magnetar_cpu.h"
 
-/* addi x10, x0, 5; sd x10, 8(x0); ecall. Its rows are its words. */
+/* addi x10, x0, 5; sd x10, 8(x0); ecall; and a register shift, sll x3, x1, x2 */
+#define ADDI 0x00500513
+#define SD 0x00a03423
+#define ECALL 0x00000073
+#define SLL 0x002091b3
+
+/* ADDI, SD and ECALL: its rows are its words. */
 #define RULE_ROWS 3
 extern const uint64_t rule[RULE_ROWS];
 
