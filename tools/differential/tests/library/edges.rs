@@ -3,7 +3,7 @@
 use crate::lending::{image_mut, Lending};
 use crate::lent::Lent;
 use differential::{image_of, program, register_shift, stage_word, Call, Rng, Rom, ADDI, SLL};
-use magnetar_cpu::{padding, segment, start, start_image};
+use magnetar_cpu::{padding, segment, start, words};
 use magnetar_cpu::{Cursor, Image, Refusal, MAX_ROWS, MAX_WORDS, RECORD_WORDS};
 use magnetar_source::interp::StreamCursor;
 
@@ -37,7 +37,7 @@ fn fresh_cursors() {
         let mut cursor = Lent::buffer(Cursor::WORDS, rng);
         let (input_before, mut wanted) = (input.clone(), cursor.clone());
         *image_mut(&mut wanted) = image_of(&StreamCursor::start(input.words()));
-        start_image(input.words(), image_mut(&mut cursor));
+        words::start(input.words(), image_mut(&mut cursor));
         let compared = cursor.compare(&wanted, "cursor");
         assert_eq!(compared, Ok(()), "input of {length}");
         assert_eq!(input.compare(&input_before, "input"), Ok(()));

@@ -3,7 +3,7 @@
 
 use crate::lent::Lent;
 use differential::{model, Call, Rng, Rom};
-use magnetar_cpu::{padding_image, segment_image, Image};
+use magnetar_cpu::{words, Image};
 
 #[derive(Clone)]
 pub struct Lending<'a> {
@@ -42,8 +42,8 @@ impl<'a> Lending<'a> {
     /// The library's answer.
     pub fn library(&mut self) -> u64 {
         let run = match self.call {
-            Call::Segment => segment_image,
-            Call::Padding => padding_image,
+            Call::Segment => words::segment,
+            Call::Padding => words::padding,
         };
         let image = image_mut(&mut self.cursor);
         let records = self.records.words_mut();

@@ -3,7 +3,7 @@
 
 use crate::lent::{Lent, GUARDS};
 use differential::{Expansion, Rng, ADDI, SLL};
-use magnetar_cpu::{expand_counting, is_expansion};
+use magnetar_cpu::{is_expansion, words};
 
 /// All that is lent to an expansion.
 #[derive(Clone)]
@@ -27,7 +27,7 @@ impl Memory {
 
     /// The library's answer.
     pub fn expand(&mut self) -> u64 {
-        expand_counting(
+        words::expand(
             self.program.words(),
             self.rows.words_mut(),
             self.starts.words_mut(),

@@ -1,0 +1,213 @@
+//! The calls, in safe forms.
+
+#![forbid(unsafe_code)]
+
+use crate::refusal::result;
+use crate::{words, Cursor, Refusal};
+
+/// The longest program that is accepted.
+pub const MAX_WORDS: usize = 1 << 20;
+/// The most rows that are accepted: those of the longest program, all register
+/// shifts.
+pub const MAX_ROWS: usize = 6 * MAX_WORDS;
+/// The most that a cursor's cycles and the length of a segment may be together.
+pub const MAX_CYCLES_SUM: u64 = 1 << 62;
+/// The most cycles that [`execute`] can be given.
+pub const MAX_CYCLES: u64 = 1 << 32;
+
+/// Expands `program` into row words, raw + 2^32 × stage, and gives their count.
+///
+/// A register shift becomes six rows, every other word one; so `6 *
+/// program.len()` places are always enough. The row words go to the first places
+/// of `rows`, and the row position where each instruction begins to the first
+/// places of `starts`; the places after them are left alone.
+///
+/// # Errors
+///
+/// Both buffers are left as they were. Lowest number first:
+/// - [`Refusal::NoWords`], 1: the program is empty.
+/// - [`Refusal::TooManyWords`], 2: it has over [`MAX_WORDS`] words.
+/// - [`Refusal::ShortBuffer`], 6: `rows` is shorter than the expansion, or
+///   `starts` than the program.
+///
+/// # Panics
+///
+/// If the library's answer is none of its numbers.
+pub fn expand(program: &[u32], rows: &mut [u64], starts: &mut [u64]) -> Result<usize, Refusal> {
+    let mut count = 0;
+    let answer = words::expand(program, rows, starts, &mut count);
+    result("magnetar_expand", answer, &Refusal::EXPAND)?;
+    Ok(usize::try_from(count).expect("a count of rows in memory"))
+}
+
+/// Whether the rows are the expansion of a program, of any length: no rows are
+/// the expansion of no words. Nothing is refused and nothing is written.
+///
+/// # Panics
+///
+/// If the library's answer is neither 0 nor 1.
+pub fn is_expansion(rows: &[u64]) -> bool {
+    yes_or_no("magnetar_is_expansion", words::is_expansion(rows))
+}
+
+/// A fresh cursor: all zero, with the input in RAM from its first word on. Input
+/// past the 256 words of RAM is ignored. Nothing is refused.
+pub fn start(input: &[u64]) -> Cursor {
+    let mut image = [0; Cursor::WORDS];
+    words::start(input, &mut image);
+    Cursor::new(image)
+}
+
+/// Runs `length` cycles, live ones until the machine halts and padding cycles
+/// after that, and moves the cursor on.
+///
+/// The records go to the first `RECORD_WORDS * length` places of `records`; the
+/// places after them are left alone. A length of 0 needs no places.
+///
+/// # Errors
+///
+/// Cursor and records are left as they were. Lowest number first:
+/// - [`Refusal::NoWords`], 1: there are no rows.
+/// - [`Refusal::TooManyWords`], 2: there are over [`MAX_ROWS`].
+/// - [`Refusal::NoExpansion`], 3: they are not the expansion of a program.
+/// - [`Refusal::OutsideRows`], 4: micro_pc or next_fetch is not below the row
+///   count.
+/// - [`Refusal::TooManyCycles`], 5: the cursor's cycles and `length` are over
+///   [`MAX_CYCLES_SUM`] together, also on a halted machine and at length 0.
+/// - [`Refusal::ShortBuffer`], 6: `records` has fewer than 17 words a cycle.
+///
+/// # Panics
+///
+/// If the library's answer is none of its numbers.
+pub fn segment(
+    rows: &[u64],
+    cursor: &mut Cursor,
+    length: u64,
+    records: &mut [u64],
+) -> Result<(), Refusal> {
+    let answer = words::segment(rows, cursor.image_mut(), length, records);
+    result("magnetar_segment", answer, &Refusal::SEGMENT)
+}
+
+/// Runs `length` padding cycles, also on a machine that is still live. Each
+/// shows row next_fetch and writes the output into that row's destination; the
+/// cursor's cycles do not grow.
+///
+/// # Errors
+///
+/// As for [`segment`], but that [`Refusal::TooManyCycles`] is none of them.
+///
+/// # Panics
+///
+/// If the library's answer is none of its numbers.
+pub fn padding(
+    rows: &[u64],
+    cursor: &mut Cursor,
+    length: u64,
+    records: &mut [u64],
+) -> Result<(), Refusal> {
+    let answer = words::padding(rows, cursor.image_mut(), length, records);
+    result("magnetar_padding", answer, &Refusal::PADDING)
+}
+
+/// What [`execute`] has done.
+#[derive(Clone, Debug)]
+pub struct Execution {
+    /// How many cycles were live, the halting one included: at most
+    /// `max_cycles`. If it is `max_cycles`, the machine may not have halted:
+    /// the cursor tells.
+    pub live_count: u64,
+    /// How many records were written: the smallest power of two that is at least
+    /// 1 and at least the live count. Those past the live ones are padding.
+    pub record_count: usize,
+    /// The cursor after padding.
+    pub cursor: Cursor,
+}
+
+/// Runs a machine from a fresh cursor with `input` until it halts, at most
+/// `max_cycles` cycles, and pads its records to a power of two.
+///
+/// The records go to the first `RECORD_WORDS * record_count` places of `records`;
+/// the places after them are left alone. `RECORD_WORDS *
+/// max_cycles.next_power_of_two()` places are exactly enough, and needed even if
+/// the machine halts early.
+///
+/// # Errors
+///
+/// The records are left as they were. Lowest number first:
+/// - [`Refusal::NoWords`], 1: there are no rows.
+/// - [`Refusal::TooManyWords`], 2: there are over [`MAX_ROWS`].
+/// - [`Refusal::NoExpansion`], 3: they are not the expansion of a program.
+/// - [`Refusal::TooManyCycles`], 5: `max_cycles` is over [`MAX_CYCLES`].
+/// - [`Refusal::ShortBuffer`], 6: `records` has fewer places than are needed.
+///
+/// # Panics
+///
+/// If the library's answer is none of its numbers.
+pub fn execute(
+    rows: &[u64],
+    input: &[u64],
+    max_cycles: u64,
+    records: &mut [u64],
+) -> Result<Execution, Refusal> {
+    let mut image = [0; Cursor::WORDS];
+    let (mut live_count, mut record_count) = (0, 0);
+    let answer = words::execute(
+        rows,
+        input,
+        max_cycles,
+        records,
+        &mut image,
+        &mut live_count,
+        &mut record_count,
+    );
+    result("magnetar_execute", answer, &Refusal::EXECUTE)?;
+    Ok(Execution {
+        live_count,
+        record_count: usize::try_from(record_count).expect("a count of records in memory"),
+        cursor: Cursor::new(image),
+    })
+}
+
+/// Whether two cursors are the same checkpoint: micro_pc, halted, output,
+/// registers 1 to 63 and RAM agree. Register cell 0, cycles and next_fetch do not
+/// count.
+///
+/// # Panics
+///
+/// If the library's answer is neither 0 nor 1.
+pub fn same_checkpoint(a: &Cursor, b: &Cursor) -> bool {
+    yes_or_no("magnetar_same", words::same(a.image(), b.image()))
+}
+
+/// How many words the library takes an image to have. It must be
+/// [`Cursor::WORDS`]: if not, the library linked is not the one that this crate
+/// was written for, and no other function may be called.
+pub fn cursor_words() -> usize {
+    usize::try_from(words::cursor_words()).expect("a count of words in memory")
+}
+
+fn yes_or_no(call: &str, answer: u64) -> bool {
+    match answer {
+        0 => false,
+        1 => true,
+        _ => panic!("{call} answered {answer}"),
+    }
+}
+
+#[cfg(test)]
+mod tests {
+    use super::*;
+
+    #[test]
+    fn answers_as_yes_and_no() {
+        assert!(yes_or_no("a", 1));
+        assert!(!yes_or_no("a", 0));
+    }
+
+    #[test]
+    #[should_panic(expected = "a answered 2")]
+    fn an_answer_that_is_neither() {
+        yes_or_no("a", 2);
+    }
+}
