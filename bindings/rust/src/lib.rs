@@ -71,3 +71,8 @@ pub use calls::{
 pub use cursor::{Cursor, Image};
 pub use record::{records, Record, RECORD_WORDS};
 pub use refusal::Refusal;
+
+/// Runs the example of README.md among the tests.
+#[cfg(doctest)]
+#[doc = include_str!("../README.md")]
+mod readme {}
