@@ -1,14 +1,18 @@
-//! Segment and padding calls, by the table of refusals and the unchanged Rust.
+//! The calls that run a machine, by the table of refusals and the unchanged
+//! Rust, and the sameness of cursors, which only the specification has.
 
-use crate::row_word;
+use crate::programs::row_word;
 use magnetar_cpu::{Cursor, Image, RECORD_WORDS};
 use magnetar_source::expand::{expand_program, ExpandedProgram};
-use magnetar_source::interp::{pad_records, CycleRecord, ExecState, StreamCursor};
-pub use records::pack;
+use magnetar_source::interp::{execute, pad_records, CycleRecord, ExecState, StreamCursor};
+use records::pack;
 
-const MOST_CYCLES: u128 = 1 << 62;
+/// The most that cycles and length of a segment may be together.
+pub const MOST_CYCLES: u128 = 1 << 62;
+/// The most cycles that an execution may have.
+pub const MOST_EXECUTED: u64 = 1 << 32;
 
-/// The calls that run a machine.
+/// The calls that move a cursor on.
 #[derive(Clone, Copy, Debug, PartialEq, Eq)]
 pub enum Call {
     Segment,
@@ -23,11 +27,8 @@ pub struct Rom {
 }
 
 impl Rom {
-    /// Only a first row is below 2^32, so the words below it are the one program
-    /// whose expansion the rows can be.
     pub fn new(rows: Vec<u64>) -> Self {
-        let words = rows.iter().filter_map(|&row| u32::try_from(row).ok());
-        let program = expand_program(&words.collect::<Vec<u32>>());
+        let program = expand_program(&first_rows(&rows));
         let is_expansion = program.rows.iter().map(row_word).eq(rows.iter().copied());
         Rom {
             rows,
@@ -44,37 +45,79 @@ impl Rom {
     }
 }
 
+/// Only a first row is below 2^32, so these words are the one program whose
+/// expansion the rows can be.
+fn first_rows(rows: &[u64]) -> Vec<u32> {
+    let words = rows.iter().filter_map(|&row| u32::try_from(row).ok());
+    words.collect()
+}
+
+/// The number of the first line of the table that is met, or 0.
+fn lowest(table: [bool; 6]) -> u64 {
+    let line = table.iter().position(|&met| met);
+    line.map_or(0, |line| line as u64 + 1)
+}
+
 /// The number of the refusal, or 0, for a record buffer of `room` words. In
 /// u128 nothing wraps.
 pub fn refusal(call: Call, rom: &Rom, image: &Image, length: u64, room: usize) -> u64 {
     let rows = rom.rows.len();
     let outside = |place: usize| u128::from(image[place]) >= rows as u128;
     let sum = u128::from(image[Cursor::CYCLES]) + u128::from(length);
-    let table = [
+    lowest([
         rows == 0,
         rows > 6_291_456,
         rom.program.is_none(),
         outside(Cursor::MICRO_PC) || outside(Cursor::NEXT_FETCH),
         call == Call::Segment && sum > MOST_CYCLES,
         (room as u128) < 17 * u128::from(length),
-    ];
-    let lowest = table.iter().position(|&met| met);
-    lowest.map_or(0, |line| line as u64 + 1)
+    ])
 }
 
-/// The answer of a call, which leaves image and records as the library must.
-pub fn model(call: Call, rom: &Rom, image: &mut Image, length: u64, records: &mut [u64]) -> u64 {
-    let answer = refusal(call, rom, image, length, records.len());
-    if answer == 0 {
-        let program = rom.program.as_ref().expect("accepted rows");
-        let mut cursor = cursor_of(image);
-        let log = run_source(call, program, &mut cursor, length as usize);
-        for (record, place) in log.iter().zip(records.chunks_exact_mut(RECORD_WORDS)) {
-            place.copy_from_slice(&pack(record));
-        }
-        *image = image_of(&cursor);
+/// The same of an execution, which has no cursor to be outside.
+pub fn execute_refusal(rom: &Rom, max_cycles: u64, room: usize) -> u64 {
+    let rows = rom.rows.len();
+    lowest([
+        rows == 0,
+        rows > 6_291_456,
+        rom.program.is_none(),
+        false,
+        max_cycles > MOST_EXECUTED,
+        (room as u128) < 17 * u128::from(max_cycles).next_power_of_two(),
+    ])
+}
+
+/// Writes records to the first places of a buffer.
+pub fn write_log(log: &[CycleRecord], records: &mut [u64]) {
+    for (record, place) in log.iter().zip(records.chunks_exact_mut(RECORD_WORDS)) {
+        place.copy_from_slice(&pack(record));
     }
-    answer
+}
+
+/// The specification's list of what must agree.
+pub fn is_same(a: &Image, b: &Image) -> bool {
+    let agrees = |place: usize| a[place] == b[place];
+    agrees(Cursor::MICRO_PC)
+        && (a[Cursor::HALTED] != 0) == (b[Cursor::HALTED] != 0)
+        && agrees(Cursor::OUTPUT)
+        && (1..64).all(|register| agrees(Cursor::REGS.start + register))
+        && Cursor::RAM.into_iter().all(agrees)
+}
+
+/// An accepted execution by the unchanged Rust: its records and its last cursor.
+/// Only live cycles count in the cursor's cycles.
+pub fn execute_source(
+    rows: &[u64],
+    input: &[u64],
+    max_cycles: usize,
+) -> (Vec<CycleRecord>, StreamCursor) {
+    let trace = execute(&first_rows(rows), input, max_cycles);
+    let last = trace.records.last().expect("at least one record");
+    let cursor = StreamCursor {
+        next_fetch: last.next_pc,
+        st: trace.final_state,
+    };
+    (trace.records, cursor)
 }
 
 /// An accepted call by the unchanged Rust.
@@ -129,9 +172,8 @@ pub fn image_of(cursor: &StreamCursor) -> Image {
 #[cfg(test)]
 mod tests {
     use super::*;
-    use crate::{program, register_shift, Rng, ADDI, SLL};
+    use crate::{program, register_shift, Lend, Rng, Running, ADDI, ECALL, SLL};
 
-    const ECALL: u32 = 0x0000_0073;
     /// The records of `ADDI` and `ECALL` that the specification prints.
     const FIRST: [u64; 17] = [0, 0, 0, 5, 0, 10, 0, 0, 0, 0, 0, 1, 0, 5, 5, 0, 327680];
     const SECOND: [u64; 17] = [1, 5, 0, 5, 0, 32, 0, 0, 0, 0, 0, 1, 5, 0, 5, 0, 134217728];
@@ -139,11 +181,11 @@ mod tests {
     #[test]
     fn the_records_of_the_specification() {
         let rom = Rom::of(&[ADDI, ECALL]);
-        let mut image = [0; Cursor::WORDS];
-        let mut records = [7; 35];
-        assert_eq!(model(Call::Segment, &rom, &mut image, 2, &mut records), 0);
-        assert_eq!(records, [&FIRST[..], &SECOND, &[7]].concat()[..]);
-        let cursor = Cursor::new(image);
+        let blank = [0; Cursor::WORDS];
+        let mut running = Running::new(Call::Segment, &rom, &blank, 2, 34, &mut Rng::new(1));
+        assert_eq!(running.model(), 0);
+        assert_eq!(running.records.words(), [FIRST, SECOND].concat());
+        let cursor = Cursor::new(running.image());
         assert_eq!((cursor.cycles(), cursor.output()), (2, 5));
         assert_eq!((cursor.micro_pc(), cursor.next_fetch()), (1, 1));
         assert!(cursor.is_halted());
@@ -155,11 +197,11 @@ mod tests {
         let rom = Rom::of(&[ADDI, ECALL]);
         let mut image = [0; Cursor::WORDS];
         image[10] = 3;
-        let mut records = [7; 17];
-        assert_eq!(model(Call::Padding, &rom, &mut image, 1, &mut records), 0);
+        let mut running = Running::new(Call::Padding, &rom, &image, 1, 17, &mut Rng::new(1));
+        assert_eq!(running.model(), 0);
         let latch = [0, 0, 0, 0, 3, 10, 0, 0, 0, 0, 0, 0, 0, 0, 0, 0, 134217728];
-        assert_eq!(records, latch);
-        assert_eq!(image, [0; Cursor::WORDS]);
+        assert_eq!(running.records.words(), latch);
+        assert_eq!(running.image(), [0; Cursor::WORDS]);
     }
 
     #[test]
@@ -198,5 +240,37 @@ mod tests {
         assert_eq!(cycles(Call::Segment, (1 << 62) - 1), 5);
         assert_eq!(cycles(Call::Segment, u64::MAX), 5);
         assert_eq!(cycles(Call::Padding, u64::MAX), 0);
+    }
+
+    /// The table of an execution on a good ROM.
+    #[test]
+    fn the_refusals_of_an_execution() {
+        let rom = Rom::of(&[ADDI, SLL]);
+        let answer = |max_cycles, room| execute_refusal(&rom, max_cycles, room);
+        for (max_cycles, full) in [(0, 17), (1, 17), (2, 34), (3, 68), (4, 68), (5, 136)] {
+            assert_eq!(
+                (answer(max_cycles, full), answer(max_cycles, full - 1)),
+                (0, 6)
+            );
+        }
+        assert_eq!((answer(1 << 32, 0), answer((1 << 32) + 1, 0)), (6, 5));
+        assert_eq!(answer(u64::MAX, usize::MAX), 5);
+        assert_eq!(execute_refusal(&Rom::new(vec![]), u64::MAX, 0), 1);
+        assert_eq!(execute_refusal(&Rom::new(vec![1 << 32]), u64::MAX, 0), 3);
+    }
+
+    /// Each word of a cursor alone.
+    #[test]
+    fn sameness() {
+        let image = [7; Cursor::WORDS];
+        assert!(is_same(&image, &image));
+        for place in 0..Cursor::WORDS {
+            let mut other = image;
+            other[place] = 8;
+            assert_eq!(is_same(&image, &other), [0, 321, 322, 324].contains(&place));
+        }
+        let mut live = image;
+        live[Cursor::HALTED] = 0;
+        assert!(!is_same(&image, &live));
     }
 }

@@ -1,22 +1,16 @@
 //! Segment and padding calls where a line of the table of refusals begins.
 
-use crate::lending::{image_mut, Lending};
-use crate::lent::Lent;
-use differential::{image_of, program, register_shift, stage_word, Call, Rng, Rom, ADDI, SLL};
-use magnetar_cpu::{padding, segment, start, words};
-use magnetar_cpu::{Cursor, Image, Refusal, MAX_ROWS, MAX_WORDS, RECORD_WORDS};
-use magnetar_source::interp::StreamCursor;
+use differential::{check, Executing, Lend, Running, Starting};
+use differential::{program, register_shift, stage_word, Call, Rng, Rom, ADDI, ECALL, SLL};
+use magnetar_cpu::{Cursor, Image, MAX_ROWS, MAX_WORDS, RECORD_WORDS};
 
 const CALLS: [Call; 2] = [Call::Segment, Call::Padding];
 const BLANK: Image = [0; Cursor::WORDS];
-const ECALL: u32 = 0x0000_0073;
-/// A jump to itself.
-const STAY: u32 = 0x0000_006f;
 
 /// The answer, everything compared.
 fn answer(call: Call, rom: &Rom, image: &Image, length: u64, room: usize) -> u64 {
-    let lending = Lending::new(call, rom, image, length, room, &mut Rng::new(7));
-    match lending.check(Lending::library) {
+    let running = Running::new(call, rom, image, length, room, &mut Rng::new(7));
+    match check(running, Running::library) {
         Ok((answer, _)) => answer,
         Err(error) => panic!("{call:?} of {length}, {room} words: {error}"),
     }
@@ -32,16 +26,10 @@ fn with(words: &[(usize, u64)]) -> Image {
 #[test]
 fn fresh_cursors() {
     for length in [0, 1, 2, 255, 256, 257, 1000] {
-        let rng = &mut Rng::new(8);
-        let input = Lent::buffer(length, rng);
-        let mut cursor = Lent::buffer(Cursor::WORDS, rng);
-        let (input_before, mut wanted) = (input.clone(), cursor.clone());
-        *image_mut(&mut wanted) = image_of(&StreamCursor::start(input.words()));
-        words::start(input.words(), image_mut(&mut cursor));
-        let compared = cursor.compare(&wanted, "cursor");
-        assert_eq!(compared, Ok(()), "input of {length}");
-        assert_eq!(input.compare(&input_before, "input"), Ok(()));
-        assert!(start(input.words()).image() == image_mut(&mut wanted));
+        let input: Vec<u64> = (1..=length).map(|word| u64::MAX / word).collect();
+        let starting = Starting::new(&input, &mut Rng::new(8));
+        let checked = check(starting, Starting::library);
+        assert_eq!(checked.err(), None, "input of {length}");
     }
 }
 
@@ -84,7 +72,17 @@ fn the_most_rows_and_one_more() {
 fn check_longest(rom: Rom) -> Vec<u64> {
     assert_eq!(rom.rows.len(), 6_291_456);
     check_last_row(&rom);
+    assert_eq!(execution(&rom, 2, 34), 0);
     rom.rows
+}
+
+/// The answer of an execution, everything compared.
+fn execution(rom: &Rom, max_cycles: u64, room: usize) -> u64 {
+    let executing = Executing::new(rom, &[], max_cycles, room, &mut Rng::new(7));
+    match check(executing, Executing::library) {
+        Ok((answer, _)) => answer,
+        Err(error) => panic!("{max_cycles} cycles, {room} words: {error}"),
+    }
 }
 
 /// Refused as too many whatever else is wrong.
@@ -94,6 +92,8 @@ fn check_too_many(rom: &Rom) {
         assert_eq!(answer(call, rom, &BLANK, 1, 17), 2);
         assert_eq!(answer(call, rom, &outside, u64::MAX, 0), 2);
     }
+    assert_eq!(execution(rom, 1, 17), 2);
+    assert_eq!(execution(rom, u64::MAX, 0), 2);
 }
 
 #[test]
@@ -208,57 +208,10 @@ fn the_halted_word() {
         let image = with(&[(Cursor::HALTED, before)]);
         for (length, room, wanted) in [(0, 0, after), (2, 34, after), (2, 33, before)] {
             for call in CALLS {
-                let lending = Lending::new(call, &rom, &image, length, room, &mut Rng::new(10));
-                let left = lending.check(Lending::library).map(|(_, left)| left);
+                let running = Running::new(call, &rom, &image, length, room, &mut Rng::new(10));
+                let left = check(running, Running::library).map(|(_, left)| left.image());
                 assert_eq!(left.map(|left| left[Cursor::HALTED]), Ok(wanted));
             }
         }
     }
-}
-
-/// The run that the specification prints, and three cycles padded to four.
-#[test]
-fn the_safe_forms() {
-    let mut cursor = start(&[9]);
-    let mut records = [0; 34];
-    let rows = [ADDI, ECALL].map(u64::from);
-    assert_eq!(segment(&rows, &mut cursor, 2, &mut records), Ok(()));
-    let first = [0, 0, 0, 5, 0, 10, 0, 9, 0, 0, 0, 1, 0, 5, 5, 0, 327_680];
-    let second = [1, 5, 0, 5, 0, 32, 0, 9, 0, 0, 0, 1, 5, 0, 5, 0, 134_217_728];
-    assert_eq!(records, [first, second].concat()[..]);
-    assert_eq!((cursor.cycles(), cursor.output()), (2, 5));
-    assert_eq!((cursor.micro_pc(), cursor.next_fetch()), (1, 1));
-    assert_eq!((cursor.regs()[10], cursor.ram()[0]), (5, 9));
-    assert!(cursor.is_halted());
-
-    let mut cursor = start(&[]);
-    let mut records = [0; 68];
-    let rows = [u64::from(STAY)];
-    assert_eq!(segment(&rows, &mut cursor, 3, &mut records), Ok(()));
-    assert_eq!(padding(&rows, &mut cursor, 1, &mut records[51..]), Ok(()));
-    let last_words = records.chunks(RECORD_WORDS).map(|record| record[16]);
-    assert!(last_words.eq([0, 0, 0, 1 << 27]));
-    assert!(!cursor.is_halted() && cursor.cycles() == 3);
-}
-
-#[test]
-fn the_refusals_of_the_safe_forms() {
-    let rows = [u64::from(ADDI)];
-    for run in [segment, padding] {
-        let refusal = |rows: &[u64], image: Image| {
-            let mut cursor = Cursor::new(image);
-            let refusal = run(rows, &mut cursor, 1, &mut [0; 16]).expect_err("a short buffer");
-            assert!(*cursor.image() == image, "{refusal}");
-            refusal
-        };
-        assert_eq!(refusal(&[], BLANK), Refusal::NoWords);
-        assert_eq!(refusal(&[1 << 32], BLANK), Refusal::NoExpansion);
-        let outside = with(&[(Cursor::MICRO_PC, 1)]);
-        assert_eq!(refusal(&rows, outside), Refusal::OutsideRows);
-        assert_eq!(refusal(&rows, BLANK), Refusal::ShortBuffer);
-    }
-    let mut cursor = Cursor::new(with(&[(Cursor::CYCLES, 1 << 62)]));
-    let refused = segment(&rows, &mut cursor, 1, &mut [0; 17]);
-    assert_eq!(refused, Err(Refusal::TooManyCycles));
-    assert_eq!(padding(&rows, &mut cursor, 1, &mut [0; 17]), Ok(()));
 }

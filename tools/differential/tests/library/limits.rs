@@ -1,6 +1,6 @@
 //! The longest programs, and buffers that are exactly full, one short or empty.
 
-use crate::memory::{verdict, Memory};
+use differential::{check, Expanding, Judging, Lend};
 use differential::{
     ordinary_word, program, register_shift, stage_word, Expansion, Rng, ADDI, SLL, STAGES,
 };
@@ -8,9 +8,19 @@ use magnetar_cpu::{expand, Refusal, MAX_WORDS};
 
 /// The answer, everything compared, for buffers of these lengths.
 fn answer(program: &[u32], expansion: &Expansion, rows: usize, starts: usize) -> u64 {
-    Memory::new(program, rows, starts, &mut Rng::new(3))
-        .check(expansion, Memory::expand)
-        .unwrap_or_else(|error| panic!("{rows} rows, {starts} starts: {error}"))
+    let expanding = Expanding::new(program, expansion, rows, starts, &mut Rng::new(3));
+    match check(expanding, Expanding::library) {
+        Ok((answer, _)) => answer,
+        Err(error) => panic!("{rows} rows, {starts} starts: {error}"),
+    }
+}
+
+/// The library's verdict on rows, everything compared.
+fn verdict(rows: &[u64]) -> bool {
+    match check(Judging::new(rows), Judging::library) {
+        Ok((answer, _)) => answer == 1,
+        Err(error) => panic!("{} rows: {error}", rows.len()),
+    }
 }
 
 /// Exactly full is accepted; one short or empty is not.

@@ -2,13 +2,12 @@
 
 #![forbid(unsafe_code)]
 
+mod complaints;
 mod edges;
-mod lending;
-mod lent;
+mod executions;
 mod limits;
 mod lists;
-mod memory;
-mod random;
+mod record;
+mod rounds;
 mod rows;
-mod wrongcalls;
-mod wrongcycles;
+mod sames;

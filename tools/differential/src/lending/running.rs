@@ -1,12 +1,12 @@
-//! What is lent to a segment or padding call, with guard words around it, and
-//! the comparison of all of it with the model.
+//! A segment or padding call.
 
-use crate::lent::Lent;
-use differential::{model, Call, Rng, Rom};
+use super::Lend;
+use crate::machine::{cursor_of, image_of, refusal, run_source, write_log};
+use crate::{Call, Lent, Rng, Rom};
 use magnetar_cpu::{words, Image};
 
 #[derive(Clone)]
-pub struct Lending<'a> {
+pub struct Running<'a> {
     pub call: Call,
     pub rom: &'a Rom,
     pub length: u64,
@@ -15,7 +15,7 @@ pub struct Lending<'a> {
     pub records: Lent<u64>,
 }
 
-impl<'a> Lending<'a> {
+impl<'a> Running<'a> {
     /// The record buffer has `room` words, all random.
     pub fn new(
         call: Call,
@@ -25,7 +25,7 @@ impl<'a> Lending<'a> {
         room: usize,
         rng: &mut Rng,
     ) -> Self {
-        Lending {
+        Running {
             call,
             rom,
             length,
@@ -39,8 +39,15 @@ impl<'a> Lending<'a> {
         self.cursor.words().try_into().expect("a cursor's words")
     }
 
-    /// The library's answer.
-    pub fn library(&mut self) -> u64 {
+    /// The number of the refusal, or 0.
+    pub fn refusal(&self) -> u64 {
+        let room = self.records.words().len();
+        refusal(self.call, self.rom, &self.image(), self.length, room)
+    }
+}
+
+impl Lend for Running<'_> {
+    fn library(&mut self) -> u64 {
         let run = match self.call {
             Call::Segment => words::segment,
             Call::Padding => words::padding,
@@ -50,26 +57,27 @@ impl<'a> Lending<'a> {
         run(self.rows.words(), image, self.length, records)
     }
 
-    /// The model's answer.
-    pub fn model(&mut self) -> u64 {
-        let image = image_mut(&mut self.cursor);
-        let records = self.records.words_mut();
-        model(self.call, self.rom, image, self.length, records)
+    fn model(&mut self) -> u64 {
+        let answer = self.refusal();
+        if answer == 0 {
+            let program = self.rom.program.as_ref().expect("accepted rows");
+            let mut cursor = cursor_of(&self.image());
+            let log = run_source(self.call, program, &mut cursor, self.length as usize);
+            write_log(&log, self.records.words_mut());
+            *image_mut(&mut self.cursor) = image_of(&cursor);
+        }
+        answer
     }
 
-    /// Calls, and compares the answer and every word with the model's. Gives the
-    /// answer and the cursor that is left.
-    pub fn check(mut self, call: impl Fn(&mut Self) -> u64) -> Result<(u64, Image), String> {
-        let mut wanted = self.clone();
-        let wanted_answer = wanted.model();
-        let answer = call(&mut self);
-        if answer != wanted_answer {
-            return Err(format!("answer {answer}, not {wanted_answer}"));
-        }
+    fn compare(&self, wanted: &Self) -> Result<(), String> {
         self.rows.compare(&wanted.rows, "rows")?;
         self.cursor.compare(&wanted.cursor, "cursor")?;
-        self.records.compare(&wanted.records, "records")?;
-        Ok((answer, self.image()))
+        self.records.compare(&wanted.records, "records")
+    }
+
+    fn about(&self) -> String {
+        let (rows, room) = (self.rows.words().len(), self.records.words().len());
+        format!("{rows} rows, length {}, room {room}", self.length)
     }
 }
 

@@ -1,9 +1,9 @@
-//! Machines with wrong cycles, which the random lists must tell from the model.
-//! The library is not called here.
+//! Machines with wrong cycles.
 
-use crate::lending::{image_mut, Lending};
-use crate::lists::{noticed, ENOUGH};
-use differential::{cursor_of, image_of, pack, refusal, run_source, Call, STAGES};
+use super::{OfCycle, Variant};
+use crate::lending::image_mut;
+use crate::machine::{cursor_of, image_of, run_source};
+use crate::{pack, Call, Running, STAGES};
 use magnetar_cpu::RECORD_WORDS;
 use magnetar_source::expand::{ExpandedProgram, RomRow, VirtualKind};
 use magnetar_source::interp::{CycleRecord, StreamCursor};
@@ -12,7 +12,7 @@ use magnetar_source::interp::{CycleRecord, StreamCursor};
 const SPARE: usize = 32;
 
 /// A cycle that the unchanged Rust has run.
-struct Cycle<'a> {
+pub struct Cycle<'a> {
     program: &'a ExpandedProgram,
     row: &'a RomRow,
     is_padding: bool,
@@ -59,9 +59,7 @@ impl Cycle<'_> {
     }
 }
 
-type WrongCycle = fn(&mut Cycle);
-
-const WRONG_CYCLES: [(&str, WrongCycle); 24] = [
+pub const WRONG: [Variant<OfCycle>; 24] = [
     ("cell 0 is cleared after a shift", cleared_cell),
     ("a stage is logged as a write", logged_stage),
     ("cell 0 is a destination", |cycle| {
@@ -190,40 +188,28 @@ fn instruction_target(cycle: &mut Cycle) {
     }
 }
 
-/// A call that runs one cycle at a time and lets each go wrong.
-fn run_wrong(lending: &mut Lending, wrong: WrongCycle) -> u64 {
-    let image = lending.image();
-    let (call, rom) = (lending.call, lending.rom);
-    let records = lending.records.words_mut();
-    let answer = refusal(call, rom, &image, lending.length, records.len());
-    if answer > 0 {
-        return answer;
+/// An accepted call once more, one cycle at a time, where each may go wrong. A
+/// refused one runs no cycle.
+pub fn run_wrong(before: &Running, after: &mut Running, wrong: OfCycle) {
+    if before.refusal() > 0 {
+        return;
     }
-    let program = rom.program.as_ref().expect("accepted rows");
-    let mut cursor = cursor_of(&image);
-    let places = records.chunks_exact_mut(RECORD_WORDS);
-    for place in places.take(lending.length as usize) {
-        let before = cursor.clone();
+    let call = before.call;
+    let program = before.rom.program.as_ref().expect("accepted rows");
+    let mut cursor = cursor_of(&before.image());
+    let places = after.records.words_mut().chunks_exact_mut(RECORD_WORDS);
+    for place in places.take(before.length as usize) {
+        let cursor_before = cursor.clone();
         let mut record = run_source(call, program, &mut cursor, 1).remove(0);
         wrong(&mut Cycle {
             program,
             row: &program.rows[record.micro_pc].row,
-            is_padding: call == Call::Padding || before.st.halted,
-            before,
+            is_padding: call == Call::Padding || cursor_before.st.halted,
+            before: cursor_before,
             after: &mut cursor,
             record: &mut record,
         });
         place.copy_from_slice(&pack(&record));
     }
-    *image_mut(&mut lending.cursor) = image_of(&cursor);
-    0
-}
-
-#[test]
-fn wrong_cycles_are_noticed() {
-    assert_eq!(noticed(|lending| run_wrong(lending, |_| ())), 0);
-    for (name, wrong) in WRONG_CYCLES {
-        let lists = noticed(|lending| run_wrong(lending, wrong));
-        assert_eq!(lists, ENOUGH, "{name}");
-    }
+    *image_mut(&mut after.cursor) = image_of(&cursor);
 }

@@ -1,6 +1,6 @@
 //! Words that are lent to a call, with guard words around them.
 
-use differential::Rng;
+use crate::Rng;
 use std::fmt::LowerHex;
 
 pub const GUARDS: usize = 8;
@@ -36,7 +36,7 @@ impl<T: Copy + PartialEq + LowerHex> Lent<T> {
         match pairs.position(|(found, wanted)| found != wanted) {
             None => Ok(()),
             Some(at) => Err(format!(
-                "{name}, place {} of {}: {:#x}, not {:#x}",
+                "{name}, place {} of {}: found {:#x}, wanted {:#x}",
                 at as i64 - GUARDS as i64,
                 self.words().len(),
                 self.all[at],

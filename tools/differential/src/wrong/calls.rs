@@ -1,17 +1,13 @@
-//! Calls with wrong answers, and calls that write what they must not, which the
-//! random lists must tell from the model. The library is not called here.
+//! Segment and padding calls with wrong answers, and such that write what they
+//! must not.
 
-use crate::lending::{image_mut, Lending};
-use crate::lent::GUARDS;
-use crate::lists::{noticed, ENOUGH};
+use super::{change, OfRun, Variant};
+use crate::lending::image_mut;
+use crate::machine::MOST_CYCLES;
+use crate::{Running, GUARDS};
 use magnetar_cpu::{Cursor, RECORD_WORDS};
 
-const MOST_CYCLES: u128 = 1 << 62;
-
-/// What was lent before the call, what is there after it, and the answer.
-type WrongCall = fn(&Lending, &mut Lending, &mut u64);
-
-const WRONG_CALLS: [(&str, WrongCall); 20] = [
+pub const WRONG: [Variant<OfRun>; 20] = [
     ("5 comes before 4", |before, _, answer| {
         change(answer, 4, 5, sum(before) > MOST_CYCLES);
     }),
@@ -81,47 +77,27 @@ const WRONG_CALLS: [(&str, WrongCall); 20] = [
     ("a row is written", |_, after, _| after.rows.all[GUARDS] = 0),
 ];
 
-/// Changes an answer where the condition holds.
-fn change(answer: &mut u64, right: u64, wrong: u64, condition: bool) {
-    if *answer == right && condition {
-        *answer = wrong;
-    }
-}
-
-fn sum(lending: &Lending) -> u128 {
-    u128::from(lending.image()[Cursor::CYCLES]) + u128::from(lending.length)
+fn sum(running: &Running) -> u128 {
+    u128::from(running.image()[Cursor::CYCLES]) + u128::from(running.length)
 }
 
 /// How many words the records of the call are.
-fn words(lending: &Lending) -> u128 {
-    RECORD_WORDS as u128 * u128::from(lending.length)
+fn words(running: &Running) -> u128 {
+    RECORD_WORDS as u128 * u128::from(running.length)
 }
 
-fn room(lending: &Lending) -> u128 {
-    lending.records.words().len() as u128
+fn room(running: &Running) -> u128 {
+    running.records.words().len() as u128
 }
 
 fn wrapped(number: u128) -> u128 {
     number & u128::from(u64::MAX)
 }
 
-fn is_inside(lending: &Lending, place: usize) -> bool {
-    lending.image()[place] < lending.rows.words().len() as u64
+fn is_inside(running: &Running, place: usize) -> bool {
+    running.image()[place] < running.rows.words().len() as u64
 }
 
-fn put(lending: &mut Lending, place: usize, word: u64) {
-    image_mut(&mut lending.cursor)[place] = word;
-}
-
-#[test]
-fn wrong_calls_are_noticed() {
-    for (name, wrong) in WRONG_CALLS {
-        let lists = noticed(|lending| {
-            let before = lending.clone();
-            let mut answer = lending.model();
-            wrong(&before, lending, &mut answer);
-            answer
-        });
-        assert_eq!(lists, ENOUGH, "{name}");
-    }
+fn put(running: &mut Running, place: usize, word: u64) {
+    image_mut(&mut running.cursor)[place] = word;
 }

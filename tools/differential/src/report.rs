@@ -1,0 +1,148 @@
+//! What a run has compared, and what differs.
+
+use crate::{run_round, Function, Lend, Lending};
+use std::fmt;
+
+/// The answers of a call are numbers from 0 on.
+const ANSWERS: usize = 7;
+/// How many differences are told.
+const TOLD: usize = 5;
+/// From this many rounds on, every answer that a call can give must come up.
+pub const RUN_OF_ALL_ANSWERS: u64 = 1000;
+
+/// The answers that were compared, by function, and the calls that differ.
+pub struct Report {
+    seed: u64,
+    answers: [[u64; ANSWERS]; Function::ALL.len()],
+    differ: u64,
+    first: Vec<String>,
+}
+
+impl Report {
+    pub fn new(seed: u64) -> Self {
+        Report {
+            seed,
+            answers: Default::default(),
+            differ: 0,
+            first: Vec::new(),
+        }
+    }
+
+    /// Makes every call of a round and compares it with the model's.
+    pub fn add_round(&mut self, number: u64, call: impl Fn(&mut Lending) -> u64) {
+        let seed = self.seed;
+        let mut place = 0;
+        run_round(seed, number, &mut |made| {
+            place += 1;
+            let function = made.before.function();
+            self.answers[function as usize][made.answer as usize] += 1;
+            let mut found = made.before.clone();
+            let answer = call(&mut found);
+            if let Err(error) = made.compare(answer, &found) {
+                let (name, about) = (function.name(), made.before.about());
+                self.add_difference(format!(
+                    "seed {seed}, round {number}, call {place}: {name} ({about}): {error}"
+                ));
+            }
+        });
+    }
+
+    fn add_difference(&mut self, text: String) {
+        self.differ += 1;
+        if self.first.len() < TOLD {
+            self.first.push(text);
+        }
+    }
+
+    /// How many calls differ from the model.
+    pub fn differ(&self) -> u64 {
+        self.differ
+    }
+
+    /// The first calls that differ, as texts.
+    pub fn first(&self) -> &[String] {
+        &self.first
+    }
+
+    /// What a function can answer and never has.
+    pub fn missing(&self) -> Vec<(&'static str, u64)> {
+        let mut missing = Vec::new();
+        for function in Function::ALL {
+            let answers = function.answers().iter();
+            let never = answers.filter(|&&at| self.answers[function as usize][at as usize] == 0);
+            missing.extend(never.map(|&answer| (function.name(), answer)));
+        }
+        missing
+    }
+}
+
+/// The table of answers. What a function cannot answer is a dash.
+impl fmt::Display for Report {
+    fn fmt(&self, f: &mut fmt::Formatter) -> fmt::Result {
+        write!(f, "{:<13}", "answer")?;
+        (0..ANSWERS).try_for_each(|answer| write!(f, "{answer:>9}"))?;
+        writeln!(f)?;
+        for function in Function::ALL {
+            write!(f, "{:<13}", function.name())?;
+            for (answer, &count) in self.answers[function as usize].iter().enumerate() {
+                match count == 0 && !function.answers().contains(&(answer as u64)) {
+                    true => write!(f, "{:>9}", "-")?,
+                    false => write!(f, "{count:>9}")?,
+                }
+            }
+            writeln!(f)?;
+        }
+        Ok(())
+    }
+}
+
+#[cfg(test)]
+mod tests {
+    use super::*;
+
+    /// Some rounds in which `call` stands for the library.
+    fn report(rounds: u64, call: impl Fn(&mut Lending) -> u64) -> Report {
+        let mut report = Report::new(1);
+        (1..=rounds).for_each(|number| report.add_round(number, &call));
+        report
+    }
+
+    #[test]
+    fn the_model_does_not_differ_from_itself() {
+        let report = report(1000, |lending| lending.model());
+        assert_eq!((report.differ(), report.first().len()), (0, 0));
+        // They need the limits.
+        let wanted = ["expand", "segment", "padding", "execute"].map(|name| (name, 2));
+        assert_eq!(report.missing(), wanted);
+    }
+
+    #[test]
+    fn a_function_that_differs_is_counted_and_told() {
+        let report = report(100, |lending| match lending {
+            Lending::Same(_) => 7,
+            _ => lending.model(),
+        });
+        let same = report.answers[Function::Same as usize];
+        assert_eq!(report.differ(), same.iter().sum::<u64>());
+        assert_eq!(report.first().len(), TOLD);
+        for text in report.first() {
+            assert!(text.starts_with("seed 1, round "), "{text}");
+            assert!(text.contains(": same ("), "{text}");
+            assert!(text.contains("): answer: found 7, wanted "), "{text}");
+        }
+    }
+
+    #[test]
+    fn the_table_of_answers() {
+        let mut report = Report::new(1);
+        report.answers[Function::Execute as usize] = [20, 1, 0, 3, 0, 5, 6];
+        let table = report.to_string();
+        let lines: Vec<&str> = table.lines().collect();
+        assert_eq!(lines.len(), 1 + Function::ALL.len());
+        let words = |line: &str| line.split_whitespace().map(str::to_string).collect();
+        let [head, execute, start]: [Vec<String>; 3] = [lines[0], lines[6], lines[3]].map(words);
+        assert_eq!(head.join(" "), "answer 0 1 2 3 4 5 6");
+        assert_eq!(execute.join(" "), "execute 20 1 0 3 - 5 6");
+        assert_eq!(start.join(" "), "start 0 - - - - - -");
+    }
+}

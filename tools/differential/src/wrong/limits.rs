@@ -1,0 +1,31 @@
+//! Wrong limits of words and rows.
+
+use super::{change, OfExecute, OfExpand, OfRun, Variant};
+use magnetar_cpu::{MAX_ROWS, MAX_WORDS};
+
+pub const EXPANSIONS: [Variant<OfExpand>; 2] = [
+    ("one word too many is accepted", |before, _, answer| {
+        change(answer, 2, 0, before.program.words().len() == MAX_WORDS + 1);
+    }),
+    ("the most words are refused", |before, _, answer| {
+        change(answer, 0, 2, before.program.words().len() == MAX_WORDS);
+    }),
+];
+
+pub const CALLS: [Variant<OfRun>; 2] = [
+    ("one row too many is accepted", |before, _, answer| {
+        change(answer, 2, 0, before.rows.words().len() == MAX_ROWS + 1);
+    }),
+    ("the most rows are refused", |before, _, answer| {
+        change(answer, 0, 2, before.rows.words().len() == MAX_ROWS);
+    }),
+];
+
+pub const EXECUTIONS: [Variant<OfExecute>; 2] = [
+    ("one row too many is accepted", |before, _, answer| {
+        change(answer, 2, 0, before.rows.words().len() == MAX_ROWS + 1);
+    }),
+    ("the most rows are refused", |before, _, answer| {
+        change(answer, 0, 2, before.rows.words().len() == MAX_ROWS);
+    }),
+];
