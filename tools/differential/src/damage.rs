@@ -1,6 +1,7 @@
 //! Damage to rows, after which they mostly are no expansion.
 
-use crate::{any_word, register_shift, stage_word, Rng, STAGES};
+use crate::programs::{any_word, register_shift, stage_word};
+use crate::{Rng, STAGES};
 
 /// The bits of a row word that hold the stage.
 pub const HIGH: u64 = u64::MAX << 32;

@@ -1,16 +1,17 @@
 //! The calls at the limits of words and rows: the most, and one more. Half a
 //! gigabyte of rows, so they are made once a run.
 
-use crate::{ordinary_word, program, register_shift, Expansion, Rng, Rom, ADDI};
-use crate::{Call, Executing, Expanding, Judging, Running};
-use crate::{Lending, Modelled};
+use crate::programs::{ordinary_word, program, register_shift};
+use crate::rounds::Tell;
+use crate::{Call, Executing, Expanding, Expansion, Judging, Running};
+use crate::{Lending, Modelled, Rng, Rom, ADDI};
 use magnetar_cpu::{Cursor, MAX_WORDS, RECORD_WORDS};
 
 /// The cycles of the calls that are accepted.
 const CYCLES: usize = 2;
 const ROOM: usize = RECORD_WORDS * CYCLES;
 
-pub fn run_limits(rng: &mut Rng, tell: &mut dyn FnMut(&Modelled<Lending>)) {
+pub fn run_limits(rng: &mut Rng, tell: Tell) {
     let shifts = program(MAX_WORDS, rng, register_shift);
     expand(&shifts, rng, tell);
     expand(&program(MAX_WORDS + 1, rng, ordinary_word), rng, tell);
@@ -23,7 +24,7 @@ pub fn run_limits(rng: &mut Rng, tell: &mut dyn FnMut(&Modelled<Lending>)) {
 }
 
 /// Into buffers that are exactly full.
-fn expand(program: &[u32], rng: &mut Rng, tell: &mut dyn FnMut(&Modelled<Lending>)) {
+fn expand(program: &[u32], rng: &mut Rng, tell: Tell) {
     let expansion = Expansion::of(program);
     let (rows, starts) = (expansion.rows.len(), expansion.starts.len());
     let expanding = Expanding::new(program, &expansion, rows, starts, rng);
@@ -31,7 +32,7 @@ fn expand(program: &[u32], rng: &mut Rng, tell: &mut dyn FnMut(&Modelled<Lending
 }
 
 /// All calls that take rows, those with a cursor at the last but one.
-fn on_rows(rom: &Rom, rng: &mut Rng, tell: &mut dyn FnMut(&Modelled<Lending>)) {
+fn on_rows(rom: &Rom, rng: &mut Rng, tell: Tell) {
     tell(&Modelled::new(Lending::IsExpansion(Judging::new(
         &rom.rows,
     ))));

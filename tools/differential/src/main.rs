@@ -4,7 +4,7 @@
 
 mod options;
 
-use differential::{notice, notice_at_limits, Lend, Lending, Report, LIMITS, RUN_OF_ALL_ANSWERS};
+use differential::{notice, notice_at_limits, Lend, Lending, Report, LIMITS};
 use options::{Options, Task, USAGE};
 use std::env;
 use std::process::ExitCode;
@@ -43,11 +43,7 @@ fn run_rounds(seed: u64, rounds: u64) -> Result<(), String> {
     (1..=rounds).for_each(|number| report.add_round(number, library));
     print_report(&report);
     println!("{rounds} rounds, seed {seed}: {} differ", report.differ());
-    judge(&report)?;
-    match report.missing() {
-        missing if rounds < RUN_OF_ALL_ANSWERS || missing.is_empty() => Ok(()),
-        missing => Err(never(&missing)),
-    }
+    report.verdict()
 }
 
 fn run_one(seed: u64, number: u64) -> Result<(), String> {
@@ -55,7 +51,7 @@ fn run_one(seed: u64, number: u64) -> Result<(), String> {
     report.add_round(number, library);
     print_report(&report);
     println!("round {number}, seed {seed}: {} differ", report.differ());
-    judge(&report)
+    report.verdict()
 }
 
 /// Tells in which round each wrong variant is noticed first. The library is not
@@ -86,20 +82,4 @@ fn run_wrong(seed: u64, rounds: u64) -> Result<(), String> {
 fn print_report(report: &Report) {
     print!("{report}");
     report.first().iter().for_each(|text| println!("{text}"));
-}
-
-fn judge(report: &Report) -> Result<(), String> {
-    match report.differ() {
-        0 => Ok(()),
-        differ => Err(format!("{differ} calls differ from the model")),
-    }
-}
-
-/// A comparison that an answer never came up in says nothing about it.
-fn never(missing: &[(&str, u64)]) -> String {
-    let texts = missing
-        .iter()
-        .map(|(name, answer)| format!("{name} {answer}"));
-    let texts: Vec<String> = texts.collect();
-    format!("answers that never came up: {}", texts.join(", "))
 }

@@ -1,7 +1,9 @@
 //! Random ROMs, cursors, lengths and rooms, mostly near where an answer changes.
 
+use crate::damage::damage;
 use crate::machine::{image_of, MOST_CYCLES, MOST_EXECUTED};
-use crate::{any_word, damage, known_word, live_word, program, Rng, Rom};
+use crate::programs::{any_word, known_word, live_word, program};
+use crate::{Rng, Rom};
 use magnetar_cpu::{Cursor, Image, RECORD_WORDS};
 use magnetar_source::interp::StreamCursor;
 

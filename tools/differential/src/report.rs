@@ -1,18 +1,22 @@
 //! What a run has compared, and what differs.
 
-use crate::{run_round, Function, Lend, Lending};
+use crate::rounds::run_round;
+use crate::{Function, Lend, Lending, LIMITS};
 use std::fmt;
 
 /// The answers of a call are numbers from 0 on.
 const ANSWERS: usize = 7;
 /// How many differences are told.
 const TOLD: usize = 5;
-/// From this many rounds on, every answer that a call can give must come up.
-pub const RUN_OF_ALL_ANSWERS: u64 = 1000;
+/// From this many rounds on, every answer that a function can give must come up:
+/// a comparison says nothing about an answer that never did.
+const FULL_RUN: u64 = 1000;
 
 /// The answers that were compared, by function, and the calls that differ.
 pub struct Report {
     seed: u64,
+    /// Of random calls.
+    rounds: u64,
     answers: [[u64; ANSWERS]; Function::ALL.len()],
     differ: u64,
     first: Vec<String>,
@@ -22,6 +26,7 @@ impl Report {
     pub fn new(seed: u64) -> Self {
         Report {
             seed,
+            rounds: 0,
             answers: Default::default(),
             differ: 0,
             first: Vec::new(),
@@ -31,6 +36,7 @@ impl Report {
     /// Makes every call of a round and compares it with the model's.
     pub fn add_round(&mut self, number: u64, call: impl Fn(&mut Lending) -> u64) {
         let seed = self.seed;
+        self.rounds += u64::from(number != LIMITS);
         let mut place = 0;
         run_round(seed, number, &mut |made| {
             place += 1;
@@ -64,15 +70,28 @@ impl Report {
         &self.first
     }
 
-    /// What a function can answer and never has.
-    pub fn missing(&self) -> Vec<(&'static str, u64)> {
-        let mut missing = Vec::new();
-        for function in Function::ALL {
-            let answers = function.answers().iter();
-            let never = answers.filter(|&&at| self.answers[function as usize][at as usize] == 0);
-            missing.extend(never.map(|&answer| (function.name(), answer)));
+    /// An error that says why the library cannot be taken to be right.
+    pub fn verdict(&self) -> Result<(), String> {
+        let never = self.never();
+        if self.differ > 0 {
+            return Err(format!("{} calls differ from the model", self.differ));
         }
-        missing
+        if self.rounds >= FULL_RUN && !never.is_empty() {
+            return Err(format!("answers that never came up: {}", never.join(", ")));
+        }
+        Ok(())
+    }
+
+    /// What a function can answer and never has.
+    fn never(&self) -> Vec<String> {
+        let mut never = Vec::new();
+        for function in Function::ALL {
+            let counts = self.answers[function as usize];
+            let missing = function.answers().iter();
+            let missing = missing.filter(|&&answer| counts[answer as usize] == 0);
+            never.extend(missing.map(|answer| format!("{} {answer}", function.name())));
+        }
+        never
     }
 }
 
@@ -107,13 +126,14 @@ mod tests {
         report
     }
 
+    /// Without the calls at the limits 2 never comes up.
     #[test]
-    fn the_model_does_not_differ_from_itself() {
-        let report = report(1000, |lending| lending.model());
-        assert_eq!((report.differ(), report.first().len()), (0, 0));
-        // They need the limits.
-        let wanted = ["expand", "segment", "padding", "execute"].map(|name| (name, 2));
-        assert_eq!(report.missing(), wanted);
+    fn a_full_run_must_have_every_answer() {
+        let short = report(FULL_RUN - 1, |lending| lending.model());
+        assert_eq!((short.differ(), short.verdict()), (0, Ok(())));
+        let full = report(FULL_RUN, |lending| lending.model());
+        let never = "answers that never came up: expand 2, segment 2, padding 2, execute 2";
+        assert_eq!((full.differ(), full.verdict()), (0, Err(never.to_string())));
     }
 
     #[test]
@@ -124,6 +144,8 @@ mod tests {
         });
         let same = report.answers[Function::Same as usize];
         assert_eq!(report.differ(), same.iter().sum::<u64>());
+        let verdict = format!("{} calls differ from the model", report.differ());
+        assert_eq!(report.verdict(), Err(verdict));
         assert_eq!(report.first().len(), TOLD);
         for text in report.first() {
             assert!(text.starts_with("seed 1, round "), "{text}");

@@ -10,7 +10,8 @@ mod limits;
 mod sames;
 mod starts;
 
-use crate::{run_round, Comparing, Executing, Expanding, Judging, Running, Starting};
+use crate::rounds::run_round;
+use crate::{Comparing, Executing, Expanding, Judging, Running, Starting};
 use crate::{Function, Lending, Modelled, LIMITS};
 use cycles::Cycle;
 

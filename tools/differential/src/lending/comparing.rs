@@ -1,7 +1,8 @@
 //! The comparison of two cursors.
 
 use super::Lend;
-use crate::{is_same, Lent, Rng};
+use crate::machine::is_same;
+use crate::{Lent, Rng};
 use magnetar_cpu::{words, Image};
 
 #[derive(Clone)]
@@ -42,6 +43,6 @@ impl Lend for Comparing {
     fn about(&self) -> String {
         let [a, b] = self.images();
         let differ = a.iter().zip(b).filter(|(a, b)| a != b).count();
-        format!("{differ} words differ")
+        format!("differing words: {differ}")
     }
 }

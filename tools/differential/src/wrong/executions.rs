@@ -3,16 +3,17 @@
 use super::{change, OfExecute, Variant};
 use crate::lending::image_mut;
 use crate::machine::{execute_source, image_of, run_source, MOST_EXECUTED};
-use crate::{Call, Executing, GUARDS};
+use crate::{Call, Executing, Lend, Lent, GUARDS};
 use magnetar_cpu::{Cursor, RECORD_WORDS};
 use magnetar_source::interp::StreamCursor;
 
-pub const WRONG: [Variant<OfExecute>; 20] = [
+pub const WRONG: [Variant<OfExecute>; 21] = [
     ("a limit of 2^32 is refused", |before, _, answer| {
         change(answer, 6, 5, before.max_cycles == MOST_EXECUTED);
     }),
-    ("6 comes before 5", |before, _, answer| {
-        change(answer, 5, 6, room(before) < due(before));
+    // No buffer has room for so many cycles.
+    ("a higher limit is not refused", |_, _, answer| {
+        change(answer, 5, 6, true);
     }),
     ("5 comes before 3", |before, _, answer| {
         change(answer, 3, 5, before.max_cycles > MOST_EXECUTED);
@@ -29,12 +30,8 @@ pub const WRONG: [Variant<OfExecute>; 20] = [
     (
         "the room is that of max_cycles, not rounded",
         |before, _, answer| {
-            change(
-                answer,
-                6,
-                0,
-                room(before) >= words(before.max_cycles.max(1)),
-            );
+            let needed = words(before.max_cycles.max(1));
+            change(answer, 6, 0, room(before) >= needed);
         },
     ),
     ("no cycles need no room", |before, _, answer| {
@@ -71,6 +68,7 @@ pub const WRONG: [Variant<OfExecute>; 20] = [
             }
         },
     ),
+    ("the input is left out", without_input),
     ("padding shows row 0", padding_of_row_0),
     ("the cursor is that before padding", unpadded_cursor),
     ("cycles count padding", |_, after, answer| {
@@ -140,6 +138,18 @@ fn live_count(executing: &Executing) -> u64 {
     let input = executing.input.words();
     let (_, cursor) = execute_source(&executing.rom.rows, input, max_cycles);
     cursor.st.cycles as u64
+}
+
+fn without_input(before: &Executing, after: &mut Executing, answer: &mut u64) {
+    if *answer == 0 {
+        let mut other = before.clone();
+        other.input = Lent::new(&[], |_| 0);
+        other.model();
+        after.records = other.records;
+        after.cursor = other.cursor;
+        after.live = other.live;
+        after.record_count = other.record_count;
+    }
 }
 
 fn padding_of_row_0(_: &Executing, after: &mut Executing, answer: &mut u64) {

@@ -62,13 +62,9 @@ pub const WRONG: [Variant<OfExpand>; 17] = [
     }),
     ("a row buffer may be one short", |before, _, answer| {
         let full = before.expansion.rows.len();
-        let is_enough = before.starts.words().len() >= before.expansion.starts.len();
-        change(
-            answer,
-            6,
-            0,
-            is_enough && before.rows.words().len() + 1 == full,
-        );
+        let has_starts = before.starts.words().len() >= before.expansion.starts.len();
+        let is_one_short = before.rows.words().len() + 1 == full;
+        change(answer, 6, 0, has_starts && is_one_short);
     }),
     ("starts need no room", |before, _, answer| {
         let full = before.expansion.rows.len();

@@ -1,7 +1,8 @@
 //! Wrong tests of rows.
 
 use super::{OfIsExpansion, Variant};
-use crate::{Expansion, Rom, HIGH};
+use crate::damage::HIGH;
+use crate::{Expansion, Rom};
 
 pub const WRONG: [Variant<OfIsExpansion>; 7] = [
     (

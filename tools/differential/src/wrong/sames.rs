@@ -1,7 +1,8 @@
 //! Wrong comparisons of cursors.
 
 use super::{OfSame, Variant};
-use crate::{is_same, Comparing};
+use crate::machine::is_same;
+use crate::Comparing;
 use magnetar_cpu::{Cursor, Image};
 
 pub const WRONG: [Variant<OfSame>; 13] = [

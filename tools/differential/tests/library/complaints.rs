@@ -10,8 +10,8 @@ const BLANK: [u64; Cursor::WORDS] = [0; Cursor::WORDS];
 /// The parts of a lending that are words of 64 bits.
 type Part<L> = (&'static str, fn(&mut L) -> &mut Lent<u64>);
 
-/// Each word at an end of each part and each guard next to it must be missed if
-/// it is changed after a call of the library.
+/// The words at both ends of each part, and the guards next to them, are named
+/// if they are changed after a call of the library.
 fn check_parts<L: Lend>(lending: &L, parts: &[Part<L>]) {
     assert!(check(lending.clone(), L::library).is_ok());
     for (name, part) in parts {

@@ -4,8 +4,7 @@ use differential::{notice, notice_at_limits, Lend, Report};
 
 const ROUNDS: u64 = 500;
 const SEED: u64 = 0x5445_5354;
-/// The rounds that must tell each wrong variant from the model, and from how
-/// many of them.
+/// How many of the first rounds must tell each wrong variant from the model.
 const ENOUGH: u64 = 10;
 const FIRST: u64 = 8000;
 
@@ -15,10 +14,7 @@ fn random_rounds() {
     for number in 1..=ROUNDS {
         report.add_round(number, |lending| lending.library());
     }
-    assert_eq!(report.differ(), 0, "{:?}", report.first());
-    // The limits have tests of their own.
-    let wanted = ["expand", "segment", "padding", "execute"].map(|name| (name, 2));
-    assert_eq!(report.missing(), wanted);
+    assert_eq!(report.verdict(), Ok(()), "{:?}", report.first());
 }
 
 #[test]
