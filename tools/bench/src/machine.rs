@@ -8,9 +8,11 @@ use magnetar_source::interp::{CycleRecord, StreamCursor};
 use std::hint::black_box;
 use std::time::Duration;
 
-/// The cycles that a round times: several segments of each length, because the
-/// first may have to fetch its memory again.
+/// The cycles that a round times in a row: several segments of each length, of
+/// which the first finds its memory displaced by others.
 const CYCLES_A_ROUND: usize = 1 << 18;
+/// The segments that are compared first. After them the Rust's allocator keeps
+/// what it frees, and later segments get the same memory again.
 const COMPARED: usize = 3;
 
 /// A program, and the library's call that runs it.
@@ -96,6 +98,19 @@ pub const LOOPS: [Loop; 6] = [
 /// addi x10,x0,5, and ecall.
 const HALTING: [u32; 2] = [0x0050_0513, 0x0000_0073];
 
+/// What runs a segment: the Rust, the Rust with its records packed into words,
+/// or the library.
+#[derive(Clone, Copy)]
+pub enum Side {
+    Source,
+    Packed,
+    Library,
+}
+
+impl Side {
+    const ALL: [Side; 3] = [Side::Source, Side::Packed, Side::Library];
+}
+
 /// A loop, a cursor of the Rust and one of the library, their buffers, and the
 /// best times of a segment so far.
 pub struct Machine {
@@ -108,9 +123,7 @@ pub struct Machine {
     source_cursor: StreamCursor,
     records: Vec<u64>,
     packed_records: Vec<u64>,
-    source: Duration,
-    packed: Duration,
-    library: Duration,
+    best: [Duration; 3],
 }
 
 impl Machine {
@@ -127,9 +140,7 @@ impl Machine {
             source_cursor: StreamCursor::start(&input),
             records: vec![0; cycles * RECORD_WORDS],
             packed_records: vec![0; cycles * RECORD_WORDS],
-            source: Duration::MAX,
-            packed: Duration::MAX,
-            library: Duration::MAX,
+            best: [Duration::MAX; 3],
         };
         if of.program == HALTING {
             machine.halt().map_err(|refusal| refusal.to_string())?;
@@ -177,19 +188,32 @@ impl Machine {
         (self.call)(rows, &mut self.cursor, cycles, &mut self.records)
     }
 
-    /// Times each of the three in turn.
+    /// Times each side in turn, several segments in a row, so that a segment finds
+    /// its memory as its own side left it. If the sides took turns by segment,
+    /// their buffers would displace each other from the cache, and the side that
+    /// computes least would lose most by that.
     pub fn round(&mut self) {
-        for _ in 0..CYCLES_A_ROUND.div_ceil(self.cycles) {
-            self.source = self.source.min(timed(|| self.run_source()).0);
-            self.packed = self.packed.min(timed(|| self.run_packed()).0);
-            self.library = self.library.min(timed(|| self.run_library()).0);
+        for side in Side::ALL {
+            for _ in 0..CYCLES_A_ROUND.div_ceil(self.cycles) {
+                self.time(side);
+            }
         }
+    }
+
+    fn time(&mut self, side: Side) {
+        let time = match side {
+            Side::Source => timed(|| self.run_source()).0,
+            Side::Packed => timed(|| self.run_packed()).0,
+            Side::Library => timed(|| self.run_library()).0,
+        };
+        let best = &mut self.best[side as usize];
+        *best = time.min(*best);
     }
 
     /// The speed of the Rust, of the Rust with packed records, and of the library.
     pub fn records_per_microsecond(&self) -> [f64; 3] {
-        let times = [self.source, self.packed, self.library];
-        times.map(|time| self.cycles as f64 / time.as_secs_f64() / 1e6)
+        let speed = |time: Duration| self.cycles as f64 / time.as_secs_f64() / 1e6;
+        self.best.map(speed)
     }
 }
 
