@@ -1,0 +1,65 @@
+//! The tables that are printed.
+
+use crate::machine::Machine;
+use crate::mix::Mix;
+use crate::target::{state, Missed, PACKED, RATIO, ROWS, RUN};
+
+pub fn print_expansion(mixes: &[Mix], missed: &mut Vec<Missed>) {
+    println!(
+        "\nExpansion, million words/s; target: ratio at least {}",
+        RATIO.least
+    );
+    println!("(Rust with what it allocates, library into lent buffers)");
+    println!("                          Rust  library  ratio");
+    for mix in mixes {
+        let name = mix.name;
+        let (source, library) = mix.words_per_microsecond();
+        let ratio = library / source;
+        let state = state(&format!("expansion, {name}"), ratio, &RATIO, missed);
+        println!("{name:<22}{source:>8.1}{library:>9.1}{ratio:>7.2}  {state}");
+    }
+}
+
+pub fn print_test(mixes: &[Mix], missed: &mut Vec<Missed>) {
+    println!("\nTest whether rows are an expansion, library only, rows/ns;");
+    println!(
+        "target: at least {} for the first mix, repeated",
+        ROWS.least
+    );
+    println!("                          rows  after Rust  repeated");
+    for (number, mix) in mixes.iter().enumerate() {
+        let (name, rows) = (mix.name, mix.rows());
+        let (first, later) = mix.rows_per_nanosecond();
+        let state = match number {
+            0 => state(&format!("test, {name}"), later, &ROWS, missed),
+            _ => "no target",
+        };
+        println!("{name:<22}{rows:>8}{first:>12.2}{later:>10.2}  {state}");
+    }
+}
+
+pub fn print_machines(machines: &[Machine], missed: &mut Vec<Missed>) {
+    println!("\nLoops and halted machines in segments, million records/s; targets:");
+    println!("ratio to the Rust's run_segment at least {},", RUN.least);
+    println!(
+        "to the same with its records packed into words at least {}",
+        PACKED.least
+    );
+    println!("(Rust with what it allocates; packed records and library into lent buffers)");
+    println!("                        cycles    Rust  packed  library  ratio   to packed");
+    for machine in machines {
+        let (name, cycles) = (machine.name, machine.cycles);
+        let [source, packed, library] = machine.records_per_microsecond();
+        let [to_source, to_packed] = [library / source, library / packed];
+        let name_of = |what: &str| format!("{name}, {cycles} cycles{what}");
+        let states = [
+            state(&name_of(""), to_source, &RUN, missed),
+            state(&name_of(", packed"), to_packed, &PACKED, missed),
+        ];
+        println!(
+            "{name:<22}{cycles:>8}{source:>8.1}{packed:>8.1}{library:>9.1}\
+             {to_source:>7.2} {:<6}{to_packed:>5.2} {}",
+            states[0], states[1]
+        );
+    }
+}
