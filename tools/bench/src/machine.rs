@@ -200,6 +200,15 @@ impl Machine {
         }
     }
 
+    /// Times one segment of each side in turn, after others' words have displaced
+    /// its memory from the cache.
+    pub fn cold_round(&mut self, others: &mut [u64]) {
+        for side in Side::ALL {
+            displace(others);
+            self.time(side);
+        }
+    }
+
     fn time(&mut self, side: Side) {
         let time = match side {
             Side::Source => timed(|| self.run_source()).0,
@@ -214,6 +223,13 @@ impl Machine {
     pub fn records_per_microsecond(&self) -> [f64; 3] {
         let speed = |time: Duration| self.cycles as f64 / time.as_secs_f64() / 1e6;
         self.best.map(speed)
+    }
+}
+
+/// Reads and writes every word. A plain fill may go past the cache.
+fn displace(others: &mut [u64]) {
+    for word in black_box(others) {
+        *word = word.wrapping_add(1);
     }
 }
 

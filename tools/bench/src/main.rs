@@ -9,7 +9,7 @@ use differential::{ordinary_word, program, register_shift, Rng};
 use machine::{Machine, LOOPS};
 use magnetar_cpu::MAX_WORDS;
 use mix::Mix;
-use report::{print_expansion, print_machines, print_test};
+use report::{print_cold, print_expansion, print_machines, print_test};
 use std::env;
 use std::process::ExitCode;
 use target::{judge, Missed};
@@ -23,6 +23,9 @@ const ROUNDS: usize = 20;
 const SEED: u64 = 0x4245_4e43;
 /// The lengths of the segments that are timed.
 const SEGMENTS: [usize; 2] = [4096, 65_536];
+/// What is written to displace a segment's memory from the cache: several times
+/// a large cache.
+const DISPLACING_MIB: usize = 256;
 
 type Word = fn(&mut Rng) -> u32;
 const MIXES: [(&str, Word); 3] = [
@@ -96,23 +99,36 @@ fn run(rounds: usize) -> Result<Vec<Missed>, String> {
     for _ in 0..rounds {
         mixes.iter_mut().for_each(Mix::round);
     }
-    let mut machines = machines()?;
+    let mut machines = machines(&SEGMENTS)?;
     for _ in 0..rounds {
         machines.iter_mut().for_each(Machine::round);
     }
+    let cold = cold_machines(rounds)?;
     println!("Programs of {MAX_WORDS} words, release build.");
     println!("Rust and library in turn, best of {rounds} rounds.");
     let mut missed = Vec::new();
     print_expansion(&mixes, &mut missed);
     print_test(&mixes, &mut missed);
     print_machines(&machines, &mut missed);
+    print_cold(&cold, DISPLACING_MIB);
     Ok(missed)
 }
 
 /// Every loop with segments of each length.
-fn machines() -> Result<Vec<Machine>, String> {
-    let of_length = |cycles| LOOPS.iter().map(move |of| Machine::new(of, cycles));
-    SEGMENTS.into_iter().flat_map(of_length).collect()
+fn machines(lengths: &[usize]) -> Result<Vec<Machine>, String> {
+    let of_length = |&cycles| LOOPS.iter().map(move |of| Machine::new(of, cycles));
+    lengths.iter().flat_map(of_length).collect()
+}
+
+/// Every loop with segments of the greatest length, timed with a cold cache.
+fn cold_machines(rounds: usize) -> Result<Vec<Machine>, String> {
+    let mut machines = machines(&SEGMENTS[1..])?;
+    let mut others = vec![0; DISPLACING_MIB << 17];
+    for _ in 0..rounds {
+        let round = |machine: &mut Machine| machine.cold_round(&mut others);
+        machines.iter_mut().for_each(round);
+    }
+    Ok(machines)
 }
 
 #[cfg(test)]

@@ -45,21 +45,42 @@ pub fn print_machines(machines: &[Machine], missed: &mut Vec<Missed>) {
         "to the same with its records packed into words at least {}",
         PACKED.least
     );
-    println!("(Rust with what it allocates; packed records and library into lent buffers)");
-    println!("                        cycles    Rust  packed  library  ratio   to packed");
+    println!("(Rust with what it allocates; packed records and library into lent buffers;");
+    println!("several segments of each in a row, into the same memory)");
+    println!("{MACHINES_HEAD}");
     for machine in machines {
         let (name, cycles) = (machine.name, machine.cycles);
-        let [source, packed, library] = machine.records_per_microsecond();
-        let [to_source, to_packed] = [library / source, library / packed];
+        let (speeds, [to_source, to_packed]) = speeds_and_ratios(machine);
         let name_of = |what: &str| format!("{name}, {cycles} cycles{what}");
         let states = [
             state(&name_of(""), to_source, &RUN, missed),
             state(&name_of(", packed"), to_packed, &PACKED, missed),
         ];
         println!(
-            "{name:<22}{cycles:>8}{source:>8.1}{packed:>8.1}{library:>9.1}\
-             {to_source:>7.2} {:<6}{to_packed:>5.2} {}",
+            "{speeds}{to_source:>7.2} {:<6}{to_packed:>5.2} {}",
             states[0], states[1]
         );
     }
+}
+
+pub fn print_cold(machines: &[Machine], others: usize) {
+    println!("\nThe same where the memory of a segment is not in the cache: {others} MiB are");
+    println!("written before each; no target");
+    println!("{MACHINES_HEAD}");
+    for machine in machines {
+        let (speeds, [to_source, to_packed]) = speeds_and_ratios(machine);
+        println!("{speeds}{to_source:>7.2}{to_packed:>12.2}");
+    }
+}
+
+const MACHINES_HEAD: &str =
+    "                        cycles    Rust  packed  library  ratio   to packed";
+
+/// The first columns of a machine's line, and the library's speed over that of the
+/// Rust and over that with packed records.
+fn speeds_and_ratios(machine: &Machine) -> (String, [f64; 2]) {
+    let (name, cycles) = (machine.name, machine.cycles);
+    let [source, packed, library] = machine.records_per_microsecond();
+    let speeds = format!("{name:<22}{cycles:>8}{source:>8.1}{packed:>8.1}{library:>9.1}");
+    (speeds, [library / source, library / packed])
 }
