@@ -24,23 +24,25 @@ pub struct Loop {
 
 type Call = fn(&[u64], &mut Cursor, u64, &mut [u64]) -> Result<(), Refusal>;
 
+pub const ALU: Loop = Loop {
+    name: "ALU",
+    program: &[
+        0x0010_8093, // addi x1,x1,1
+        0x0011_0133, // add x2,x2,x1
+        0x0021_c1b3, // xor x3,x3,x2
+        0x4011_8233, // sub x4,x3,x1
+        0x0032_1293, // slli x5,x4,3
+        0x0032_e333, // or x6,x5,x3
+        0x0061_33b3, // sltu x7,x2,x6
+        0xfe5f_f06f, // jal x0,.-28
+    ],
+    call: segment,
+};
+
 /// Programs that loop without end, and one that halts. A target counts rows, of
 /// which a register shift has six.
 pub const LOOPS: [Loop; 6] = [
-    Loop {
-        name: "ALU",
-        program: &[
-            0x0010_8093, // addi x1,x1,1
-            0x0011_0133, // add x2,x2,x1
-            0x0021_c1b3, // xor x3,x3,x2
-            0x4011_8233, // sub x4,x3,x1
-            0x0032_1293, // slli x5,x4,3
-            0x0032_e333, // or x6,x5,x3
-            0x0061_33b3, // sltu x7,x2,x6
-            0xfe5f_f06f, // jal x0,.-28
-        ],
-        call: segment,
-    },
+    ALU,
     Loop {
         name: "load and store",
         program: &[
@@ -127,22 +129,27 @@ pub struct Machine {
 }
 
 impl Machine {
-    /// An error if Rust and library do not agree on the first segments.
     pub fn new(of: &Loop, cycles: usize) -> Result<Machine, String> {
+        Machine::of_program(of, of.program, cycles)
+    }
+
+    /// Runs another program by the loop's call. An error if Rust and library do
+    /// not agree on the first segments.
+    pub fn of_program(of: &Loop, program: &[u32], cycles: usize) -> Result<Machine, String> {
         let input: Vec<u64> = (0..256).map(|word| word << 32 | word).collect();
         let mut machine = Machine {
             name: of.name,
             cycles,
             call: of.call,
-            rows: Expansion::of(of.program).rows,
-            program: expand_program(of.program),
+            rows: Expansion::of(program).rows,
+            program: expand_program(program),
             cursor: start(&input),
             source_cursor: StreamCursor::start(&input),
             records: vec![0; cycles * RECORD_WORDS],
             packed_records: vec![0; cycles * RECORD_WORDS],
             best: [Duration::MAX; 3],
         };
-        if of.program == HALTING {
+        if program == HALTING {
             machine.halt().map_err(|refusal| refusal.to_string())?;
         }
         for _ in 0..COMPARED {
@@ -188,6 +195,15 @@ impl Machine {
         (self.call)(rows, &mut self.cursor, cycles, &mut self.records)
     }
 
+    /// Runs a segment and drops what it gives.
+    pub fn run(&mut self, side: Side) {
+        match side {
+            Side::Source => drop(black_box(self.run_source())),
+            Side::Packed => drop(black_box(self.run_packed())),
+            Side::Library => drop(black_box(self.run_library())),
+        }
+    }
+
     /// Times each side in turn, several segments in a row, so that a segment finds
     /// its memory as its own side left it. If the sides took turns by segment,
     /// their buffers would displace each other from the cache, and the side that
@@ -217,6 +233,10 @@ impl Machine {
         };
         let best = &mut self.best[side as usize];
         *best = time.min(*best);
+    }
+
+    pub fn rows(&self) -> usize {
+        self.rows.len()
     }
 
     /// The speed of the Rust, of the Rust with packed records, and of the library.

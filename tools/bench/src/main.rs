@@ -3,13 +3,15 @@
 mod machine;
 mod mix;
 mod report;
+mod short;
 mod target;
 
 use differential::{ordinary_word, program, register_shift, Rng};
 use machine::{Machine, LOOPS};
 use magnetar_cpu::MAX_WORDS;
 use mix::Mix;
-use report::{print_cold, print_expansion, print_machines, print_test};
+use report::{print_cold, print_expansion, print_machines, print_short, print_test};
+use short::Short;
 use std::env;
 use std::process::ExitCode;
 use target::{judge, Missed};
@@ -99,36 +101,53 @@ fn run(rounds: usize) -> Result<Vec<Missed>, String> {
     for _ in 0..rounds {
         mixes.iter_mut().for_each(Mix::round);
     }
-    let mut machines = machines(&SEGMENTS)?;
+    let mut calls = Calls::new()?;
     for _ in 0..rounds {
-        machines.iter_mut().for_each(Machine::round);
+        calls.round();
     }
-    let cold = cold_machines(rounds)?;
     println!("Programs of {MAX_WORDS} words, release build.");
     println!("Rust and library in turn, best of {rounds} rounds.");
     let mut missed = Vec::new();
     print_expansion(&mixes, &mut missed);
     print_test(&mixes, &mut missed);
-    print_machines(&machines, &mut missed);
-    print_cold(&cold, DISPLACING_MIB);
+    print_machines(&calls.machines, &mut missed);
+    print_cold(&calls.cold, DISPLACING_MIB);
+    print_short(&calls.shorts);
     Ok(missed)
+}
+
+/// All segments that are timed. They share their rounds, so that times of a busy
+/// computer fall on every table.
+struct Calls {
+    machines: Vec<Machine>,
+    cold: Vec<Machine>,
+    others: Vec<u64>,
+    shorts: Vec<Short>,
+}
+
+impl Calls {
+    fn new() -> Result<Calls, String> {
+        Ok(Calls {
+            machines: machines(&SEGMENTS)?,
+            cold: machines(&SEGMENTS[1..])?,
+            others: vec![0; (DISPLACING_MIB << 20) / size_of::<u64>()],
+            shorts: Short::all()?,
+        })
+    }
+
+    fn round(&mut self) {
+        self.machines.iter_mut().for_each(Machine::round);
+        for machine in &mut self.cold {
+            machine.cold_round(&mut self.others);
+        }
+        self.shorts.iter_mut().for_each(Short::round);
+    }
 }
 
 /// Every loop with segments of each length.
 fn machines(lengths: &[usize]) -> Result<Vec<Machine>, String> {
     let of_length = |&cycles| LOOPS.iter().map(move |of| Machine::new(of, cycles));
     lengths.iter().flat_map(of_length).collect()
-}
-
-/// Every loop with segments of the greatest length, timed with a cold cache.
-fn cold_machines(rounds: usize) -> Result<Vec<Machine>, String> {
-    let mut machines = machines(&SEGMENTS[1..])?;
-    let mut others = vec![0; DISPLACING_MIB << 17];
-    for _ in 0..rounds {
-        let round = |machine: &mut Machine| machine.cold_round(&mut others);
-        machines.iter_mut().for_each(round);
-    }
-    Ok(machines)
 }
 
 #[cfg(test)]

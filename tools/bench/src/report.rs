@@ -2,6 +2,7 @@
 
 use crate::machine::Machine;
 use crate::mix::Mix;
+use crate::short::{nanoseconds_per_row, Short};
 use crate::target::{state, Missed, PACKED, RATIO, ROWS, RUN};
 
 pub fn print_expansion(mixes: &[Mix], missed: &mut Vec<Missed>) {
@@ -71,6 +72,19 @@ pub fn print_cold(machines: &[Machine], others: usize) {
         let (speeds, [to_source, to_packed]) = speeds_and_ratios(machine);
         println!("{speeds}{to_source:>7.2}{to_packed:>12.2}");
     }
+}
+
+pub fn print_short(shorts: &[Short]) {
+    println!("\nA call that runs few cycles of the ALU loop, or none, ns; no target");
+    println!("(the library tests all rows and copies the cursor in every call, the Rust neither)");
+    println!("                rows  cycles    Rust  library");
+    for short in shorts {
+        let (rows, cycles) = (short.rows(), short.cycles());
+        let (source, library) = short.nanoseconds();
+        println!("{rows:>20}{cycles:>8}{source:>8}{library:>9}");
+    }
+    let row = nanoseconds_per_row(shorts);
+    println!("for each row of its ROM a call of the library takes {row:.2} ns");
 }
 
 const MACHINES_HEAD: &str =
