@@ -102,7 +102,7 @@ const HALTING: [u32; 2] = [0x0050_0513, 0x0000_0073];
 
 /// What runs a segment: the Rust, the Rust with its records packed into words,
 /// or the library.
-#[derive(Clone, Copy)]
+#[derive(Clone, Copy, Debug, PartialEq)]
 pub enum Side {
     Source,
     Packed,
@@ -111,6 +111,15 @@ pub enum Side {
 
 impl Side {
     const ALL: [Side; 3] = [Side::Source, Side::Packed, Side::Library];
+
+    pub fn named(name: &str) -> Option<Side> {
+        match name {
+            "rust" => Some(Side::Source),
+            "packed" => Some(Side::Packed),
+            "library" => Some(Side::Library),
+            _ => None,
+        }
+    }
 }
 
 /// A loop, a cursor of the Rust and one of the library, their buffers, and the

@@ -5,6 +5,7 @@ mod mix;
 mod report;
 mod short;
 mod target;
+mod untimed;
 
 use differential::{ordinary_word, program, register_shift, Rng};
 use machine::{Machine, LOOPS};
@@ -15,11 +16,14 @@ use short::Short;
 use std::env;
 use std::process::ExitCode;
 use target::{judge, Missed};
+use untimed::Untimed;
 
 const USAGE: &str = "\
 usage: bench [--require] [--slack=PERCENT] [ROUNDS]
+       bench run rust|packed|library LOOP CYCLES CALLS
   --require: exit 1 also if the test's target is missed
   --slack: exit 1 only if a target is missed by more than that
+  run: only run segments of a loop, untimed, to count their instructions
 ";
 const ROUNDS: usize = 20;
 const SEED: u64 = 0x4245_4e43;
@@ -48,17 +52,42 @@ fn main() -> ExitCode {
         eprintln!("bench: built with debug assertions, so times mean nothing: use --release");
         return ExitCode::from(2);
     }
-    let Some(options) = Options::read(env::args().skip(1)) else {
+    let arguments: Vec<String> = env::args().skip(1).collect();
+    let Some(command) = Command::read(&arguments) else {
         eprint!("{USAGE}");
         return ExitCode::from(2);
     };
-    let judged =
-        run(options.rounds).and_then(|missed| judge(&missed, options.require, options.slack));
-    match judged {
+    match command.run() {
         Ok(()) => ExitCode::SUCCESS,
         Err(message) => {
             eprintln!("bench: {message}");
             ExitCode::FAILURE
+        }
+    }
+}
+
+#[derive(Debug, PartialEq)]
+enum Command {
+    Time(Options),
+    Run(Untimed),
+}
+
+impl Command {
+    fn read(arguments: &[String]) -> Option<Command> {
+        match arguments {
+            [first, others @ ..] if first == "run" => Untimed::read(others).map(Command::Run),
+            _ => Options::read(arguments).map(Command::Time),
+        }
+    }
+
+    /// An error if something failed or a target was missed.
+    fn run(&self) -> Result<(), String> {
+        match self {
+            Command::Time(options) => {
+                let missed = run(options.rounds)?;
+                judge(&missed, options.require, options.slack)
+            }
+            Command::Run(untimed) => untimed.run(),
         }
     }
 }
@@ -73,7 +102,7 @@ struct Options {
 }
 
 impl Options {
-    fn read(arguments: impl Iterator<Item = String>) -> Option<Options> {
+    fn read(arguments: &[String]) -> Option<Options> {
         let mut options = Options {
             require: false,
             slack: 0.0,
@@ -154,16 +183,19 @@ fn machines(lengths: &[usize]) -> Result<Vec<Machine>, String> {
 mod tests {
     use super::*;
 
-    fn parsed(text: &str) -> Option<Options> {
-        Options::read(text.split_whitespace().map(str::to_string))
+    fn parsed(text: &str) -> Option<Command> {
+        let words = text.split_whitespace().map(str::to_string);
+        Command::read(&words.collect::<Vec<String>>())
     }
 
     #[test]
     fn arguments() {
-        let options = |require, slack, rounds| Options {
-            require,
-            slack,
-            rounds,
+        let options = |require, slack, rounds| {
+            Command::Time(Options {
+                require,
+                slack,
+                rounds,
+            })
         };
         assert_eq!(parsed(""), Some(options(false, 0.0, ROUNDS)));
         assert_eq!(parsed("3 --require"), Some(options(true, 0.0, 3)));
@@ -171,5 +203,8 @@ mod tests {
         for wrong in ["0", "--requires", "--slack", "--slack=100", "--slack=-1"] {
             assert_eq!(parsed(wrong), None, "{wrong}");
         }
+        let run = parsed("run rust ALU 64 10");
+        assert!(matches!(run, Some(Command::Run(_))));
+        assert_eq!(parsed("run rust ALU 64"), None);
     }
 }
