@@ -267,6 +267,27 @@ mod tests {
     use super::*;
     use std::collections::HashSet;
 
+    fn is_timed(machine: &Machine) -> bool {
+        machine.best.iter().all(|&time| time < Duration::MAX)
+    }
+
+    #[test]
+    fn a_round_times_every_side() {
+        let mut machine = Machine::new(&ALU, 1000).expect("answers that agree");
+        assert!(!is_timed(&machine));
+        machine.round();
+        assert!(is_timed(&machine));
+    }
+
+    #[test]
+    fn a_cold_round_displaces_memory_before_every_side() {
+        let mut machine = Machine::new(&ALU, 1000).expect("answers that agree");
+        let mut others = [0; 100];
+        machine.cold_round(&mut others);
+        assert!(is_timed(&machine));
+        assert_eq!(others, [3; 100]);
+    }
+
     /// A loop that left rows out would time something else than its name says.
     #[test]
     fn loops_run_all_their_rows() {
