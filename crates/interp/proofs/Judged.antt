@@ -12,10 +12,10 @@ use Rattle.interp.specs.declared.Cursor.{Cursor}
 use Rattle.interp.specs.declared.Refusal.{Refusal}
 use Rattle.interp.specs.declared.Refusal.the-variants.{NoRows, TooManyRows, NoExpansion, OutsideRows, TooManyCycles, Short}
 use Rattle.interp.specs.Machine.{startOf, flat}
-use Rattle.interp.specs.Code.{coreOf, Ready, stepOf, callOf}
+use Rattle.interp.specs.Code.{coreOf, Ready, Room, stepOf, callOf}
 use Rattle.interp.specs.Calls.{recorded, end, Call, isSegment, amount, lent, turn, rowLines, callLines, refusals, refusalOf, settled, answerOf, numberOf}
 use Rattle.interp.specs.Execute.{nextPowerOfTwo, lengthLines, executeRefusals, executed, answered, executeOf}
-use Rattle.interp.proofs.Powers.{smallest}
+use Rattle.interp.proofs.Powers.{smallest, power-mono}
 
 -- tests that hold together are equal
 same-test : (a b x y : ℕ) → (a < b → x < y) → (b ≤ a → y ≤ x) → ltb a b ≡ ltb x y
@@ -89,12 +89,12 @@ few-of : (live : Bool) (cycles n : ℕ) → (live && ltb (2 ^ 62) (cycles + n)) 
 few-of true cycles n e p = ltb-false _ _ e
 few-of false cycles n e p = absurd (omega (arith, p))
 
-pub upto-n : (live : Bool) (n : ℕ) → cond live n 0 ≤ n
+upto-n : (live : Bool) (n : ℕ) → cond live n 0 ≤ n
 upto-n true n = omega arith
 upto-n false n = omega arith
 
 pub accepted : (rows : List ℕ) (c : Cursor) (live : Bool) (n room : ℕ) → lowest (refusals rows c live n room) ≡ 0
-    → Ready (length rows) (coreOf c) (cond live n 0) room × (17 * n ≤ room)
+    → Ready (length rows) (coreOf c) (cond live n 0) room × Room true n (cond live n 0) room
 accepted rows c live n room e =
     let p₃ = rows-accepted rows (callLines (length rows) c live n room) e in
     let p₄ = unmet (not (ltb (c .«micro_pc» .0) (length rows) && ltb (c .«next_fetch» .0) (length rows))) 4 _ (omega arith) (p₃ .others) in
@@ -108,12 +108,12 @@ accepted rows c live n room e =
         few-cycles = few-of live (c .cycles) n (p₅ .0);
         fits = omega (arith, fits, upto-n live n);
       },
-      fits,
+      record { enough = λ count h. omega (arith, h, upto-n live n); fits = λ count h. fits },
     )
 
 -- an accepted execution begins at row 0
 pub accepted-execution : (rows input : List ℕ) (max room : ℕ) → lowest (executeRefusals rows max room) ≡ 0
-    → Ready (length rows) (coreOf (startOf input)) max room × ((max ≤ 2 ^ 32) × (17 * nextPowerOfTwo max ≤ room))
+    → Ready (length rows) (coreOf (startOf input)) max room × ((max ≤ 2 ^ 32) × Room false 0 max room)
 unfolding startOf
 accepted-execution rows input max room e =
     let p₃ = rows-accepted rows (lengthLines max room) e in
@@ -121,9 +121,15 @@ accepted-execution rows input max room e =
     let p₆ = unmet (ltb room (17 * nextPowerOfTwo max)) 6 _ (omega arith) (p₅ .1) in
     let few : max ≤ 2 ^ 32 = ltb-false _ _ (p₅ .0) in
     let fits : 17 * nextPowerOfTwo max ≤ room = ltb-false _ _ (p₆ .0) in
-    let enough = smallest max (omega (arith, few)) .enough in (
-      record { pc = p₃ .some; fetch = p₃ .some; few-cycles = λ h. omega (arith, few); fits = omega (arith, fits, enough) },
-      (few, fits),
+    let small : max < 2 ^ 64 = omega (arith, few) in (
+      record { pc = p₃ .some; fetch = p₃ .some; few-cycles = λ h. omega (arith, few); fits = omega (arith, fits, smallest max small .enough) },
+      (
+        few,
+        record {
+          enough = λ count h. smallest count (omega (arith, h, small)) .enough;
+          fits = λ count h. omega (arith, fits, power-mono count max h small);
+        },
+      ),
     )
 
 -- on rows that are accepted, a call at a row of theirs is accepted if it fits

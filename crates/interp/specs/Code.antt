@@ -1,14 +1,17 @@
--- What the private functions of src/lib.rt ask of their arguments, and the two halves of a cursor that the loops work on.
+-- What the private functions of src/lib.rt ask of their arguments and leave, and the two halves of a cursor that the loops work on.
 -- Assumes nothing: these are definitions.
-use Prim.Native.Nat.{ℕ, _+_, _*_, _^_, _≤_, _<_}
+use Prim.Native.Nat.{ℕ, _+_, _-_, _*_, _^_, _≤_, _<_}
 use mathlib.Core.Bool.{Bool, cond}
-use mathlib.Core.List.{List}
+use mathlib.Core.List.{List, _++_}
+use lib.ListN.{drop}
 use Rattle.expand.specs.declared.RomRow.{RomRow}
 use Rattle.interp.specs.declared.Core.{Core}
 use Rattle.interp.specs.declared.Cursor.{Cursor}
 use Rattle.interp.specs.declared.Effect.{Effect}
+use Rattle.interp.specs.Machine.{flat}
 use Rattle.interp.specs.Cycle.{Step, cycle, padding}
-use Rattle.interp.specs.Calls.{Call, segment, padded}
+use Rattle.interp.specs.Calls.{recorded, end, Call, segment, padded}
+use Rattle.interp.specs.Execute.{liveCount, liveRecords, stoppedAt, nextPowerOfTwo, Executed}
 
 -- a row's registers are x0 to x31
 pub record InRange (row : RomRow) : Type 0 where
@@ -52,6 +55,29 @@ pub record Ready (count : ℕ) (k : Core) (n room : ℕ) : Type 0 where
   pub fetch : k .«next_fetch» .0 < count
   pub few-cycles : 0 < n → k .cycles + n ≤ 2 ^ 62
   pub fits : 17 * n ≤ room
+
+-- how many records are due after so many live cycles
+abbrev pub dueOf : Bool → ℕ → ℕ → ℕ
+dueOf exact n count = cond exact n (nextPowerOfTwo count)
+
+-- the records that are due hold the live ones and have room, however many cycles up to the limit were live
+pub record Room (exact : Bool) (n limit room : ℕ) : Type 0 where
+  pub enough : (count : ℕ) → count ≤ limit → count ≤ dueOf exact n count
+  pub fits : (count : ℕ) → count ≤ limit → 17 * dueOf exact n count ≤ room
+
+-- what live cycles and then padding up to the records that are due leave
+abbrev pub paddedTo : Bool → ℕ → List ℕ → ℕ → Cursor → List ℕ → Executed
+paddedTo exact n rows limit c buffer =
+    let taken = liveCount rows limit c in
+    let due = dueOf exact n taken in
+    let stopped = stoppedAt rows limit c in
+    record {
+      number = 0;
+      live = taken;
+      count = due;
+      cursor = end (padding rows) (due - taken) stopped;
+      buffer = flat (liveRecords rows limit c) ++ (flat (recorded (padding rows) (due - taken) stopped) ++ drop (17 * due) buffer);
+    }
 
 -- the cycle of a call: of a segment call if live, else of a padding call
 abbrev pub stepOf : Bool → List ℕ → Cursor → Step

@@ -11,8 +11,8 @@ ghost use Rattle.values.specs.Values.{branchTarget};
 ghost use Rattle.interp.specs.Machine.{rowAt, startOf, words, flat};
 ghost use Rattle.interp.specs.Cycle.{redirect, writes, keeps, noAccess, shows, effect, subFlag, aluFlags, shiftOut, aluArm, stageEffect, stageArm, loadFlag, loadFlags, loadArm, storeArm, branchFlags, branchArm, upperArm, jumpTarget, jumpArm, systemArm, paddingArm, recordOf, scratched, regsAfter, ramAfter, commit, stepAt, frozenAt};
 ghost use Rattle.interp.specs.Calls.{recorded, end, segment, padded, rowLines, callLines, refusals, answerOf, numberOf, outcomeNumber};
-ghost use Rattle.interp.specs.Execute.{liveCount, stoppedAt, liveRecords, nextPowerOfTwo, lengthLines, executeRefusals, executed, executeOf, ExecuteLaws};
-ghost use Rattle.interp.specs.Code.{InRange, Sound, whole, coreOf, stepOf, callOf, Ready};
+ghost use Rattle.interp.specs.Execute.{liveCount, stoppedAt, liveRecords, nextPowerOfTwo, lengthLines, executeRefusals, executeOf, ExecuteLaws};
+ghost use Rattle.interp.specs.Code.{InRange, Sound, whole, coreOf, callOf, dueOf, Ready, Room, paddedTo};
 ghost use Rattle.interp.specs.declared.Outcome.the-variants.{Accepted};
 ghost use Rattle.interp.specs.Demand3.{Demand3};
 use expand::MicroPc;
@@ -937,27 +937,69 @@ fn whole_of(k: Core, regs: [u64; 64], ram: [u64; 256]) -> Cursor
     }
 }
 
+// The smallest power of two at least n and 1.
+fn next_power_of_two(n: u64) -> u64
+    requires { ⌜ n ≤ 2 ^ 62 ⌝ }
+    ensures { λ r. ⌜ r ≡ nextPowerOfTwo n ⌝ }
+{
+    let mut p: u64 = 1;
+    while p < n {
+        p = 2 * p;
+    }
+    p
+}
+
+// How many records a call makes that had so many live cycles: `n` if `exact`, else the power of two.
+fn due_of(exact: bool, n: usize, count: usize) -> usize
+    requires { ⌜ count ≤ 2 ^ 62 ⌝ }
+    ensures { λ r. ⌜ r ≡ dueOf exact n count ⌝ }
+{
+    if exact {
+        n
+    } else {
+        next_power_of_two(count as u64) as usize
+    }
+}
+
+// The cycles of every accepted call: live ones, at most `limit`, and then padding up to the records that are due. The arrays
+// are copied out of the cursor once and lent to each cycle. This is the one place that calls `run_live`, so that the compiler
+// puts that loop here, where the arrays are locals: with a second call they go through pointers, and a live cycle is slower.
+fn run_padded(
+    rows: &[u64],
+    cursor: Cursor,
+    limit: usize,
+    exact: bool,
+    n: usize,
+    records: &mut [u64],
+) -> Execution
+    requires { ⌜ Ready (length (now rows)) (coreOf cursor) limit (length (now records)) × Room exact n limit (length (now records)) ⌝ }
+    ensures { λ r. ⌜ r .outcome ≡ Accepted ⌝ }
+    ensures { λ r. ⌜ r .«live_count» ≡ paddedTo exact n (now (rows .entry)) limit cursor (now (records .entry)) .live ⌝ }
+    ensures { λ r. ⌜ r .«record_count» ≡ paddedTo exact n (now (rows .entry)) limit cursor (now (records .entry)) .count ⌝ }
+    ensures { λ r. ⌜ r .cursor ≡ paddedTo exact n (now (rows .entry)) limit cursor (now (records .entry)) .cursor ⌝ }
+    ensures { λ _. ⌜ now (records .exit) ≡ paddedTo exact n (now (rows .entry)) limit cursor (now (records .entry)) .buffer ⌝ }
+{
+    let mut regs = cursor.regs;
+    let mut ram = cursor.ram;
+    let start = core_of(cursor);
+    let stopped = run_live(rows, start, limit, &mut regs, &mut ram, records);
+    let due = due_of(exact, n, stopped.count);
+    pad_rest(stopped, due, &mut regs, &mut ram, records);
+    let core = stopped.core;
+    let after = whole_of(core, regs, ram);
+    Execution {
+        outcome: Outcome::Accepted,
+        live_count: stopped.count as u64,
+        record_count: due as u64,
+        cursor: after,
+    }
+}
+
 // The most live cycles of a call of n cycles: a padding call has none.
 fn live_limit(live: bool, n: usize) -> usize
     ensures { λ r. ⌜ r ≡ cond live n 0 ⌝ }
 {
     if live { n } else { 0 }
-}
-
-// The n cycles of an accepted call. The arrays are copied out of the cursor once and lent to each cycle.
-fn cycles_of(live: bool, rows: &[u64], cursor: Cursor, n: usize, records: &mut [u64]) -> Cursor
-    requires { ⌜ Ready (length (now rows)) (coreOf cursor) (cond live n 0) (length (now records)) × (17 * n ≤ length (now records)) ⌝ }
-    ensures { λ r. ⌜ r ≡ end (stepOf live (now (rows .entry))) n cursor ⌝ }
-    ensures { λ _. ⌜ now (records .exit) ≡ flat (recorded (stepOf live (now (rows .entry))) n cursor) ++ drop (17 * n) (now (records .entry)) ⌝ }
-{
-    let mut regs = cursor.regs;
-    let mut ram = cursor.ram;
-    let start = core_of(cursor);
-    let limit = live_limit(live, n);
-    let stopped = run_live(rows, start, limit, &mut regs, &mut ram, records);
-    pad_rest(stopped, n, &mut regs, &mut ram, records);
-    let core = stopped.core;
-    whole_of(core, regs, ram)
 }
 
 // Refusal 4.
@@ -1043,7 +1085,9 @@ fn answer_call(live: bool, rows: &[u64], cursor: Cursor, n: u64, records: &mut [
             cursor: cursor,
         },
         Outcome::Accepted => {
-            let after = cycles_of(live, rows, cursor, n as usize, records);
+            let limit = live_limit(live, n as usize);
+            let ran = run_padded(rows, cursor, limit, true, n as usize, records);
+            let after = ran.cursor;
             Answer {
                 outcome: outcome,
                 cursor: after,
@@ -1074,18 +1118,6 @@ pub fn pad_records(rows: &[u64], cursor: Cursor, n: u64, records: &mut [u64]) ->
 
 // ---- execute
 
-// The smallest power of two at least n and 1.
-fn next_power_of_two(n: u64) -> u64
-    requires { ⌜ n ≤ 2 ^ 32 ⌝ }
-    ensures { λ r. ⌜ r ≡ nextPowerOfTwo n ⌝ }
-{
-    let mut p: u64 = 1;
-    while p < n {
-        p = 2 * p;
-    }
-    p
-}
-
 // The refusals of execute that its rows do not meet.
 fn judge_length(max_cycles: u64, room: usize) -> Outcome
     ensures { λ r. ⌜ outcomeNumber r ≡ lowest (lengthLines «max_cycles» room) ⌝ }
@@ -1107,31 +1139,6 @@ fn judge_execution(rows: &[u64], max_cycles: u64, room: usize) -> Outcome
     match judged {
         Outcome::Refused(_) => judged,
         Outcome::Accepted => judge_length(max_cycles, room),
-    }
-}
-
-// An accepted execution, from a cursor on: live cycles, counted against max_cycles, and then padding.
-fn execution_of(rows: &[u64], cursor: Cursor, max_cycles: usize, records: &mut [u64]) -> Execution
-    requires { ⌜ Ready (length (now rows)) (coreOf cursor) «max_cycles» (length (now records)) × ((«max_cycles» ≤ 2 ^ 32) × (17 * nextPowerOfTwo «max_cycles» ≤ length (now records))) ⌝ }
-    ensures { λ r. ⌜ r .outcome ≡ Accepted ⌝ }
-    ensures { λ r. ⌜ r .«live_count» ≡ executed (now (rows .entry)) cursor «max_cycles» (now (records .entry)) .live ⌝ }
-    ensures { λ r. ⌜ r .«record_count» ≡ executed (now (rows .entry)) cursor «max_cycles» (now (records .entry)) .count ⌝ }
-    ensures { λ r. ⌜ r .cursor ≡ executed (now (rows .entry)) cursor «max_cycles» (now (records .entry)) .cursor ⌝ }
-    ensures { λ _. ⌜ now (records .exit) ≡ executed (now (rows .entry)) cursor «max_cycles» (now (records .entry)) .buffer ⌝ }
-{
-    let mut regs = cursor.regs;
-    let mut ram = cursor.ram;
-    let start = core_of(cursor);
-    let stopped = run_live(rows, start, max_cycles, &mut regs, &mut ram, records);
-    let due = next_power_of_two(stopped.count as u64);
-    pad_rest(stopped, due as usize, &mut regs, &mut ram, records);
-    let core = stopped.core;
-    let after = whole_of(core, regs, ram);
-    Execution {
-        outcome: Outcome::Accepted,
-        live_count: stopped.count as u64,
-        record_count: due,
-        cursor: after,
     }
 }
 
@@ -1159,7 +1166,7 @@ pub fn execute(rows: &[u64], input: &[u64], max_cycles: u64, records: &mut [u64]
         }
         Outcome::Accepted => {
             let start = Cursor::start(input);
-            execution_of(rows, start, max_cycles as usize, records)
+            run_padded(rows, start, max_cycles as usize, false, 0, records)
         }
     }
 }
