@@ -829,7 +829,7 @@ fn fetch_row(over: bool, fetch: usize, pc: usize) -> usize
 }
 
 // Live cycles until the machine halts, at most `limit`; they are counted. A row is taken apart in one place, so that the
-// compiler can join that with the match of the live cycle: where the live cycles end, that is the row at which padding stays.
+// compiler builds the decoder into the loop: where the live cycles end, that is the row at which padding stays.
 fn run_live(
     rows: &[u64],
     start: Core,
