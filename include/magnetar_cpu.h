@@ -97,7 +97,7 @@ extern "C" {
 #define MAGNETAR_RECORD_RS2_VAL 2
 /*
  * What is written, what the register held (of a jump that writes its link, that
- * link), and which register it is; 32 stands for register 0.
+ * link), and which register it is; 32 stands for none and for x0.
  */
 #define MAGNETAR_RECORD_RD_VAL 3
 #define MAGNETAR_RECORD_RD_OLD 4
@@ -111,9 +111,11 @@ extern "C" {
 #define MAGNETAR_RECORD_STORE_SRC 10
 /* The row after the cycle. */
 #define MAGNETAR_RECORD_NEXT_PC 11
+/* Operands and output of the ALU: of a load or store the base, the offset and the address. */
 #define MAGNETAR_RECORD_ALU_A 12
 #define MAGNETAR_RECORD_ALU_B 13
 #define MAGNETAR_RECORD_ALU_OUT 14
+/* The value of a shift of one row (all but those of opcode 0x33), else 0. */
 #define MAGNETAR_RECORD_SHIFT_OUT 15
 /* byte_offset, store_width and the flags. */
 #define MAGNETAR_RECORD_PACKED 16

@@ -67,32 +67,32 @@ words! {
     RAM_OLD ram_old 8
     /// What a store leaves in that RAM word.
     RAM_NEW ram_new 9
-    /// The register that a store takes its bytes from.
+    /// The content of the register that a store takes its bytes from, else 0.
     STORE_SRC store_src 10
     /// The row of the next cycle.
     NEXT_PC next_pc 11
-    /// The first operand.
+    /// The first operand, the base of an address.
     ALU_A alu_a 12
-    /// The second operand.
+    /// The second operand, the offset of an address.
     ALU_B alu_b 13
     /// The output of the ALU, an address for loads and stores.
     ALU_OUT alu_out 14
-    /// The output of a shift by an immediate.
+    /// The value of a shift of one row (all but those of opcode 0x33), else 0.
     SHIFT_OUT shift_out 15
 }
 
 flags! {
-    /// A register is written.
+    /// The row writes a result.
     WE we 0
     /// A branch is taken.
     BRANCH_TAKEN branch_taken 1
-    /// The adder is used.
+    /// An addition, a difference, an unsigned comparison, a load or a branch.
     IS_ARITH is_arith 2
     /// XOR, OR or AND.
     IS_LOGIC is_logic 3
-    /// The adder subtracts.
+    /// A difference of registers, an unsigned comparison or a branch.
     IS_SUB_OP is_sub_op 4
-    /// A shift by an immediate.
+    /// A shift of one row.
     IS_SHIFT is_shift 5
     /// A load.
     IS_LOAD is_load 6
@@ -102,7 +102,7 @@ flags! {
     LD_BYTE ld_byte 8
     /// A load of two bytes.
     LD_HALF ld_half 9
-    /// A load of a whole word.
+    /// A load of neither one byte nor two.
     LD_WORD ld_word 10
     /// The halting cycle, and every padding cycle.
     HALTED_LATCH halted_latch 11
