@@ -6,9 +6,9 @@ use Prim.Native.Nat.{ℕ, zero, suc}
 use native.Mathlib.Omega.{arith}
 use lib.ListN.{length, set, length-set, length-take, length-append, length-replicate}
 use Rattle.interp.specs.declared.Cursor.{Cursor}
-use Rattle.interp.specs.declared.Effect.{Effect}
-use Rattle.interp.specs.declared.Scratch.{Scratch}
-use Rattle.interp.specs.declared.Scratch.the-variants.{Kept, Holds}
+use Rattle.interp.specs.declared.effect.Effect.{Effect}
+use Rattle.interp.specs.declared.effect.Scratch.{Scratch}
+use Rattle.interp.specs.declared.effect.Scratch.the-variants.{Kept, Holds}
 use Rattle.interp.specs.Machine.{loaded, startOf}
 use Rattle.interp.specs.Cycle.{Step, scratched, regsAfter, stores, ramAfter, commit, stepAt, live, frozenAt, padding, cycle}
 use Rattle.interp.specs.Calls.{end, Call, segment, padded, amount, turn, refusalOf, settled, answerOf}

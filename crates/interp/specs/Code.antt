@@ -5,9 +5,9 @@ use mathlib.Core.Bool.{Bool, cond}
 use mathlib.Core.List.{List, _++_}
 use lib.ListN.{drop}
 use Rattle.expand.specs.declared.RomRow.{RomRow}
-use Rattle.interp.specs.declared.Core.{Core}
+use Rattle.interp.specs.declared.cycle.Core.{Core}
 use Rattle.interp.specs.declared.Cursor.{Cursor}
-use Rattle.interp.specs.declared.Effect.{Effect}
+use Rattle.interp.specs.declared.effect.Effect.{Effect}
 use Rattle.interp.specs.Machine.{flat}
 use Rattle.interp.specs.Cycle.{Step, cycle, padding}
 use Rattle.interp.specs.Calls.{recorded, end, Call, segment, padded}

@@ -6,18 +6,18 @@ use mathlib.Core.Bool.{Bool, true, false, cond, _&&_, _||_}
 use mathlib.Core.List.{List}
 use lib.ListN.{length, set}
 use lib.Dec.{eqb}
-use Rattle.values.specs.Values.{plus, minus, registerForm, secondOperand, alternate, aluValue, stageValue, wordOf, offsetOf, loadValue, storeWidth, storeValue, branchTaken, branchTarget, jalrTarget, linkValue, upperValue}
+use Rattle.interp.specs.Values.{plus, minus, registerForm, secondOperand, alternate, aluValue, stageValue, wordOf, offsetOf, loadValue, storeWidth, storeValue, branchTaken, branchTarget, jalrTarget, linkValue, upperValue}
 use Rattle.expand.specs.declared.RomRow.{RomRow}
 use Rattle.expand.specs.declared.VirtualKind.{VirtualKind}
 use Rattle.expand.specs.declared.VirtualKind.the-variants.{Alu, ShiftStage, Load, Store, Branch, Upper, Jump, System}
-use Rattle.interp.specs.declared.Access.{Access}
+use Rattle.interp.specs.declared.effect.Access.{Access}
 use Rattle.interp.specs.declared.Cursor.{Cursor}
 use Rattle.interp.specs.declared.CycleRecord.{CycleRecord}
-use Rattle.interp.specs.declared.Effect.{Effect}
-use Rattle.interp.specs.declared.Scratch.{Scratch}
-use Rattle.interp.specs.declared.Scratch.the-variants.{Kept, Holds}
-use Rattle.interp.specs.declared.Shown.{Shown}
-use Rattle.interp.specs.declared.Write.{Write}
+use Rattle.interp.specs.declared.effect.Effect.{Effect}
+use Rattle.interp.specs.declared.effect.Scratch.{Scratch}
+use Rattle.interp.specs.declared.effect.Scratch.the-variants.{Kept, Holds}
+use Rattle.interp.specs.declared.effect.Shown.{Shown}
+use Rattle.interp.specs.declared.effect.Write.{Write}
 use Rattle.interp.specs.Flags as flag
 use Rattle.interp.specs.Machine.{rowAt, at, cell}
 

@@ -1,0 +1,4 @@
+pub mod Lists
+pub mod Powers
+pub mod Loops
+pub mod Halting
