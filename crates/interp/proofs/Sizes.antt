@@ -28,7 +28,7 @@ scratched-size (Holds v) regs = length-set regs 0 v
 
 regs-size : (e : Effect) (regs : List ℕ) → length (regsAfter e regs) ≡ length regs
 unfolding regsAfter
-regs-size e regs = length-set (scratched (e .scratch) regs) (e .write .rd) (e .write .«rd_val») ∙ scratched-size (e .scratch) regs
+regs-size e regs = length-set regs (e .write .rd) (e .write .«rd_val»)
 
 choice-size : (b : Bool) (x y : List ℕ) → length x ≡ length y → length (cond b x y) ≡ length y
 choice-size true x y h = h
@@ -39,18 +39,14 @@ unfolding ramAfter
 ram-size e ram =
     choice-size (stores (e .shown .flags)) (set ram (e .access .«ram_addr») (e .access .«ram_new»)) ram (length-set ram _ _)
 
--- a step that leaves registers and RAM as an effect says
-effect-sized : (e : Effect) (c c′ : Cursor) → Sized c → c′ .regs ≡ regsAfter e (c .regs) → c′ .ram ≡ ramAfter e (c .ram) → Sized c′
-effect-sized e c c′ s regs ram =
-    record { regs = rw regs (regs-size e (c .regs) ∙ s .regs); ram = rw ram (ram-size e (c .ram) ∙ s .ram) }
-
 pub live-sized : (rows : List ℕ) (c : Cursor) → Sized c → Sized (live rows c .after)
 unfolding live stepAt commit
-live-sized rows c s = effect-sized _ c (live rows c .after) s refl refl
+live-sized rows c s =
+    record { regs = scratched-size _ (regsAfter _ (c .regs)) ∙ regs-size _ (c .regs) ∙ s .regs; ram = ram-size _ (c .ram) ∙ s .ram }
 
 pub padding-sized : (rows : List ℕ) (c : Cursor) → Sized c → Sized (padding rows c .after)
 unfolding padding frozenAt
-padding-sized rows c s = effect-sized _ c (padding rows c .after) s refl refl
+padding-sized rows c s = record { regs = regs-size _ (c .regs) ∙ s .regs; ram = ram-size _ (c .ram) ∙ s .ram }
 
 choice-sized : (b : Bool) (x y : Step) → Sized (x .after) → Sized (y .after) → Sized (cond b x y .after)
 choice-sized true x y hx hy = hx

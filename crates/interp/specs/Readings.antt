@@ -9,8 +9,8 @@ use lib.Signed.{ltZ, shrZ, quotZ}
 use Rattle.interp.specs.Values.{signedRight, less, shift, stageValue, quarterOn}
 
 -- the signed number whose two's complement of 64 bits is x
-abbrev pub signed : ℕ → ℤ
-signed x = cond (ltb x (2 ^ 63)) (pos x) (pos x -ℤ pos (2 ^ 64))
+abbrev pub signedWord : ℕ → ℤ
+signedWord x = cond (ltb x (2 ^ 63)) (pos x) (pos x -ℤ pos (2 ^ 64))
 
 -- a negative number becomes 0
 abbrev pub clamp : ℤ → ℕ
@@ -18,17 +18,17 @@ clamp (pos n) = n
 clamp (negsuc n) = 0
 
 -- the accumulator after the stages 0 to k, each on the value of the one before
-unfoldable pub stages : ℕ → ℕ → ℕ → ℕ → ℕ → ℕ
-stages zero funct3 raw a b = stageValue 0 funct3 raw a b
-stages (suc k) funct3 raw a b = stageValue (suc k) funct3 raw (stages k funct3 raw a b) b
+unfoldable pub stagesValue : ℕ → ℕ → ℕ → ℕ → ℕ → ℕ
+stagesValue zero funct3 raw a b = stageValue 0 funct3 raw a b
+stagesValue (suc k) funct3 raw a b = stageValue (suc k) funct3 raw (stagesValue k funct3 raw a b) b
 
 -- the three forms of interp.rs that read a word as i64, said on integers; and the six stages in turn
 pub record Signed : Type 0 where
   -- the order of the signed numbers
-  pub order : (a b : ℕ) → a < 2 ^ 64 → b < 2 ^ 64 → less a b ≡ ltZ (signed a) (signed b)
+  pub order : (a b : ℕ) → a < 2 ^ 64 → b < 2 ^ 64 → less a b ≡ ltZ (signedWord a) (signedWord b)
   -- the signed number by 2^k, rounded down
-  pub floor : (x k : ℕ) → x < 2 ^ 64 → signed (signedRight x k) ≡ shrZ (signed x) (2 ^ k)
+  pub floor : (x k : ℕ) → x < 2 ^ 64 → signedWord (signedRight x k) ≡ shrZ (signedWord x) (2 ^ k)
   -- the signed number by 4, rounded towards zero
-  pub quarter : (mp imm : ℕ) → mp < 2 ^ 61 → imm < 2 ^ 64 → quarterOn mp imm ≡ clamp (pos mp +ℤ quotZ (signed imm) (pos 4))
+  pub quarter : (mp imm : ℕ) → mp < 2 ^ 61 → imm < 2 ^ 64 → quarterOn mp imm ≡ clamp (pos mp +ℤ quotZ (signedWord imm) (pos 4))
   -- stages 0 to 5 are one shift
-  pub six-stages : (funct3 raw a b : ℕ) → stages 5 funct3 raw a b ≡ shift funct3 raw a (b % 64)
+  pub six-stages : (funct3 raw a b : ℕ) → stagesValue 5 funct3 raw a b ≡ shift funct3 raw a (b % 64)

@@ -4,6 +4,8 @@ use Prim.Native.Nat.{ℕ, _+_, _-_, _*_, _/_, _%_, _^_, min}
 use mathlib.Core.Bool.{Bool, false, cond, not, _&&_}
 use lib.Dec.{eqb, ltb}
 use lib.Bits.{bitAnd, bitOr, bitXor}
+use Rattle.expand.specs.declared.MicroPc.{MicroPc}
+use Rattle.interp.specs.Machine.{at}
 
 -- ---- words
 
@@ -73,28 +75,28 @@ aluValue funct3 raw a b =
     (cond (eqb funct3 7) (bitAnd a b) 0))))))
 
 -- the immediate; opcode 0x17, AUIPC, adds 4 × mp
-unfoldable pub upperValue : ℕ → ℕ → ℕ → ℕ
-upperValue raw imm mp = cond (eqb (raw % 2 ^ 7) 0x17) (plus imm (mp * 4)) imm
+unfoldable pub upperValue : ℕ → ℕ → MicroPc → ℕ
+upperValue raw imm mp = cond (eqb (raw % 2 ^ 7) 0x17) (plus imm (mp .0 * 4)) imm
 
 -- ---- a shift stage
 
 -- 2^stage if that bit of b is set, else 0; stages past the sixth do not shift
-unfoldable pub amount : ℕ → ℕ → ℕ
-amount stage b = cond (ltb stage 6) (b / 2 ^ stage % 2 * 2 ^ stage) 0
+unfoldable pub stageAmount : ℕ → ℕ → ℕ
+stageAmount stage b = cond (ltb stage 6) (b / 2 ^ stage % 2 * 2 ^ stage) 0
 
 -- the accumulator after a stage
 abbrev pub stageValue : ℕ → ℕ → ℕ → ℕ → ℕ → ℕ
-stageValue stage funct3 raw acc b = shift funct3 raw acc (amount stage b)
+stageValue stage funct3 raw acc b = shift funct3 raw acc (stageAmount stage b)
 
 -- ---- loads and stores
 
 -- the RAM word of an address
-abbrev pub wordOf : ℕ → ℕ
-wordOf at = at / 8 % 256
+abbrev pub ramAddrOf : ℕ → ℕ
+ramAddrOf address = address / 8 % 256
 
 -- the byte of an address in its word
-abbrev pub offsetOf : ℕ → ℕ
-offsetOf at = at % 8
+abbrev pub byteOffsetOf : ℕ → ℕ
+byteOffsetOf address = address % 8
 
 -- byte i of a word, from the low end, i modulo 8
 abbrev pub byte : ℕ → ℕ → ℕ
@@ -144,14 +146,14 @@ quarterOn mp imm = cond (ltb imm (2 ^ 63)) (plus mp (imm / 4)) (mp - (2 ^ 64 - i
 unfoldable pub rowCount : ℕ → ℕ
 rowCount rows = cond (eqb rows 0) 1 rows
 
--- of a branch and of JAL
-abbrev pub branchTarget : ℕ → ℕ → ℕ → ℕ
-branchTarget mp imm rows = quarterOn mp imm % rowCount rows
+-- the row that a branch or JAL at row mp goes to
+abbrev pub branchTarget : MicroPc → ℕ → ℕ → MicroPc
+branchTarget mp imm rows = at (quarterOn (mp .0) imm % rowCount rows)
 
--- of JALR
-abbrev pub jalrTarget : ℕ → ℕ → ℕ → ℕ
-jalrTarget a imm rows = plus a imm / 4 % rowCount rows
+-- the row that JALR goes to
+abbrev pub jalrTarget : ℕ → ℕ → ℕ → MicroPc
+jalrTarget a imm rows = at (plus a imm / 4 % rowCount rows)
 
--- what a jump writes
-abbrev pub linkValue : ℕ → ℕ
-linkValue mp = plus (mp * 4) 4
+-- what a jump at row mp writes
+abbrev pub linkValue : MicroPc → ℕ
+linkValue mp = plus (mp .0 * 4) 4

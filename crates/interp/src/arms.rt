@@ -5,6 +5,7 @@ ghost use lib.Dec.{eqb};
 ghost use Rattle.interp.specs.Values.{branchTarget};
 ghost use Rattle.interp.specs.Cycle.{subFlag, aluFlags, shiftOut, aluArm, stageEffect, stageArm, loadFlag, loadFlags, loadArm, storeArm, branchFlags, branchArm, upperArm, jumpTarget, jumpArm, systemArm, paddingArm};
 ghost use Rattle.interp.specs.Code.{InRange};
+use crate::Cursor;
 use crate::CycleRecord;
 use crate::effect::Access;
 use crate::effect::Effect;
@@ -16,6 +17,7 @@ use crate::effect::plain;
 use crate::effect::showing;
 use crate::effect::writes_to;
 use crate::values;
+use expand::MicroPc;
 use expand::RomRow;
 
 fn sub_flag(raw: u32) -> u64
@@ -53,7 +55,7 @@ fn shift_out(funct3: u32, v: u64) -> u64
     }
 }
 
-pub(crate) fn alu_arm(row: RomRow, next: usize, regs: &[u64; 64]) -> Effect
+pub(crate) fn alu_arm(row: RomRow, next: MicroPc, regs: &[u64; Cursor::REGS]) -> Effect
     requires { ⌜ InRange row ⌝ }
     ensures { λ r. ⌜ r ≡ aluArm row next (now (regs .entry)) ⌝ }
 {
@@ -75,7 +77,13 @@ fn accumulated(stage: usize, a: u64, acc: u64) -> u64
 }
 
 // Stages 0 to 4 leave the value in the accumulator, stage 5 writes it to rd.
-fn stage_effect(stage: usize, row: RomRow, next: usize, v: u64, regs: &[u64; 64]) -> Effect
+fn stage_effect(
+    stage: usize,
+    row: RomRow,
+    next: MicroPc,
+    v: u64,
+    regs: &[u64; Cursor::REGS],
+) -> Effect
     requires { ⌜ InRange row ⌝ }
     ensures { λ r. ⌜ r ≡ stageEffect stage row next v (now (regs .entry)) ⌝ }
 {
@@ -97,16 +105,22 @@ fn stage_effect(stage: usize, row: RomRow, next: usize, v: u64, regs: &[u64; 64]
     }
 }
 
-pub(crate) fn stage_arm(stage: usize, row: RomRow, next: usize, regs: &[u64; 64]) -> Effect
+pub(crate) fn stage_arm(
+    stage: usize,
+    row: RomRow,
+    next: MicroPc,
+    acc: u64,
+    regs: &[u64; Cursor::REGS],
+) -> Effect
     requires { ⌜ InRange row ⌝ }
-    ensures { λ r. ⌜ r ≡ stageArm stage row next (now (regs .entry)) ⌝ }
+    ensures { λ r. ⌜ r ≡ stageArm stage row next acc (now (regs .entry)) ⌝ }
 {
     let rs1 = row.rs1;
     let rs2 = row.rs2;
     let a = regs[rs1];
     let b = regs[rs2];
-    let acc = accumulated(stage, a, regs[0]);
-    let v = values::stage_value(stage, row.funct3, row.raw, acc, b);
+    let from = accumulated(stage, a, acc);
+    let v = values::stage_value(stage, row.funct3, row.raw, from, b);
     stage_effect(stage, row, next, v, regs)
 }
 
@@ -126,15 +140,20 @@ fn load_flags(funct3: u32) -> u64
     CycleRecord::WE + CycleRecord::IS_ARITH + CycleRecord::IS_LOAD + load_flag(funct3)
 }
 
-pub(crate) fn load_arm(row: RomRow, next: usize, regs: &[u64; 64], ram: &[u64; 256]) -> Effect
+pub(crate) fn load_arm(
+    row: RomRow,
+    next: MicroPc,
+    regs: &[u64; Cursor::REGS],
+    ram: &[u64; Cursor::RAM_WORDS],
+) -> Effect
     requires { ⌜ InRange row ⌝ }
     ensures { λ r. ⌜ r ≡ loadArm row next (now (regs .entry)) (now (ram .entry)) ⌝ }
 {
     let rs1 = row.rs1;
     let a = regs[rs1];
     let address = values::address_of(a, row.imm);
-    let addr = values::word_of(address);
-    let off = values::offset_of(address);
+    let addr = values::ram_addr_of(address);
+    let off = values::byte_offset_of(address);
     let v = values::extract_load(ram[addr], row.funct3, off);
     let access = Access {
         ram_addr: addr,
@@ -148,7 +167,12 @@ pub(crate) fn load_arm(row: RomRow, next: usize, regs: &[u64; 64], ram: &[u64; 2
     plain(writes_to(row.rd, v, regs), access, shown, next)
 }
 
-pub(crate) fn store_arm(row: RomRow, next: usize, regs: &[u64; 64], ram: &[u64; 256]) -> Effect
+pub(crate) fn store_arm(
+    row: RomRow,
+    next: MicroPc,
+    regs: &[u64; Cursor::REGS],
+    ram: &[u64; Cursor::RAM_WORDS],
+) -> Effect
     requires { ⌜ InRange row ⌝ }
     ensures { λ r. ⌜ r ≡ storeArm row next (now (regs .entry)) (now (ram .entry)) ⌝ }
 {
@@ -157,8 +181,8 @@ pub(crate) fn store_arm(row: RomRow, next: usize, regs: &[u64; 64], ram: &[u64; 
     let a = regs[rs1];
     let b = regs[rs2];
     let address = values::address_of(a, row.imm);
-    let addr = values::word_of(address);
-    let off = values::offset_of(address);
+    let addr = values::ram_addr_of(address);
+    let off = values::byte_offset_of(address);
     let old = ram[addr];
     let new = values::store_value(row.funct3, old, b, off);
     let access = Access {
@@ -184,7 +208,7 @@ fn branch_flags(taken: bool) -> u64
     }
 }
 
-fn branch_next(taken: bool, mp: usize, imm: u64, count: usize, next: usize) -> usize
+fn branch_next(taken: bool, mp: MicroPc, imm: u64, count: usize, next: MicroPc) -> MicroPc
     ensures { λ r. ⌜ r ≡ cond taken (branchTarget mp imm count) next ⌝ }
 {
     if taken {
@@ -196,10 +220,10 @@ fn branch_next(taken: bool, mp: usize, imm: u64, count: usize, next: usize) -> u
 
 pub(crate) fn branch_arm(
     row: RomRow,
-    mp: usize,
+    mp: MicroPc,
     count: usize,
-    next: usize,
-    regs: &[u64; 64],
+    next: MicroPc,
+    regs: &[u64; Cursor::REGS],
 ) -> Effect
     requires { ⌜ InRange row ⌝ }
     ensures { λ r. ⌜ r ≡ branchArm row mp count next (now (regs .entry)) ⌝ }
@@ -215,7 +239,12 @@ pub(crate) fn branch_arm(
     plain(keeps_cell(regs), no_access(), shown, to)
 }
 
-pub(crate) fn upper_arm(row: RomRow, mp: usize, next: usize, regs: &[u64; 64]) -> Effect
+pub(crate) fn upper_arm(
+    row: RomRow,
+    mp: MicroPc,
+    next: MicroPc,
+    regs: &[u64; Cursor::REGS],
+) -> Effect
     requires { ⌜ InRange row ⌝ }
     ensures { λ r. ⌜ r ≡ upperArm row mp next (now (regs .entry)) ⌝ }
 {
@@ -228,7 +257,7 @@ pub(crate) fn upper_arm(row: RomRow, mp: usize, next: usize, regs: &[u64; 64]) -
     plain(writes_to(row.rd, v, regs), no_access(), shown, next)
 }
 
-fn jump_target(row: RomRow, mp: usize, count: usize, a: u64) -> usize
+fn jump_target(row: RomRow, mp: MicroPc, count: usize, a: u64) -> MicroPc
     ensures { λ r. ⌜ r ≡ jumpTarget row mp count a ⌝ }
 {
     if row.raw & 0x7f == 0x67 {
@@ -239,7 +268,7 @@ fn jump_target(row: RomRow, mp: usize, count: usize, a: u64) -> usize
 }
 
 // The source writes the link before it looks at the old content: the rd_old of a jump is its link.
-pub(crate) fn jump_arm(row: RomRow, mp: usize, count: usize, regs: &[u64; 64]) -> Effect
+pub(crate) fn jump_arm(row: RomRow, mp: MicroPc, count: usize, regs: &[u64; Cursor::REGS]) -> Effect
     requires { ⌜ InRange row ⌝ }
     ensures { λ r. ⌜ r ≡ jumpArm row mp count (now (regs .entry)) ⌝ }
 {
@@ -262,7 +291,7 @@ pub(crate) fn jump_arm(row: RomRow, mp: usize, count: usize, regs: &[u64; 64]) -
     plain(write, no_access(), shown, target)
 }
 
-pub(crate) fn system_arm(row: RomRow, mp: usize, regs: &[u64; 64]) -> Effect
+pub(crate) fn system_arm(row: RomRow, mp: MicroPc, regs: &[u64; Cursor::REGS]) -> Effect
     requires { ⌜ InRange row ⌝ }
     ensures { λ r. ⌜ r ≡ systemArm row mp (now (regs .entry)) ⌝ }
 {
@@ -284,7 +313,12 @@ pub(crate) fn system_arm(row: RomRow, mp: usize, regs: &[u64; 64]) -> Effect
 }
 
 // What a padding cycle does: the arm of `frozen_record`.
-pub(crate) fn padding_arm(row: RomRow, at: usize, output: u64, regs: &[u64; 64]) -> Effect
+pub(crate) fn padding_arm(
+    row: RomRow,
+    at: MicroPc,
+    output: u64,
+    regs: &[u64; Cursor::REGS],
+) -> Effect
     requires { ⌜ InRange row ⌝ }
     ensures { λ r. ⌜ r ≡ paddingArm row at output (now (regs .entry)) ⌝ }
 {

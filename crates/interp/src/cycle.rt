@@ -1,11 +1,12 @@
 // One cycle: `commit` does what an arm says and writes the record of it.
 ghost use mathlib.Core.Path.{_≡_};
-ghost use Prim.Native.Nat.{suc, _+_, _*_, _%_, _^_, _<_};
+ghost use Prim.Native.Nat.{_+_, _*_, _^_, _<_};
 ghost use mathlib.Core.Bool.{cond};
 ghost use lib.ListN.{length};
 ghost use Rattle.interp.specs.Machine.{words};
-ghost use Rattle.interp.specs.Cycle.{recordOf, scratched, regsAfter, ramAfter, commit, stepAt, frozenAt};
+ghost use Rattle.interp.specs.Cycle.{accumulator, rowAfter, recordOf, scratched, regsAfter, ramAfter, commit, stepAt, frozenAt};
 ghost use Rattle.interp.specs.Code.{InRange, Sound, whole};
+use crate::Cursor;
 use crate::CycleRecord;
 use crate::arms::alu_arm;
 use crate::arms::branch_arm;
@@ -32,7 +33,13 @@ pub(crate) struct Core {
 }
 
 // The record of an effect at row `at`.
-fn record_of(row: RomRow, at: usize, e: Effect, regs: &[u64; 64], ram: &[u64; 256]) -> CycleRecord
+fn record_of(
+    row: RomRow,
+    at: MicroPc,
+    e: Effect,
+    regs: &[u64; Cursor::REGS],
+    ram: &[u64; Cursor::RAM_WORDS],
+) -> CycleRecord
     requires { ⌜ InRange row × Sound e ⌝ }
     ensures { λ r. ⌜ r ≡ recordOf row at e (now (regs .entry)) (now (ram .entry)) ⌝ }
 {
@@ -42,8 +49,9 @@ fn record_of(row: RomRow, at: usize, e: Effect, regs: &[u64; 64], ram: &[u64; 25
     let a = regs[rs1];
     let b = regs[rs2];
     let word = ram[addr];
+    let next = e.next_pc;
     CycleRecord {
-        micro_pc: MicroPc(at),
+        micro_pc: at,
         rs1_val: a,
         rs2_val: b,
         rd_val: e.write.rd_val,
@@ -54,7 +62,7 @@ fn record_of(row: RomRow, at: usize, e: Effect, regs: &[u64; 64], ram: &[u64; 25
         ram_old: e.access.ram_old,
         ram_new: e.access.ram_new,
         store_src: e.access.store_src,
-        next_pc: MicroPc(e.next_pc),
+        next_pc: next,
         alu_a: e.shown.alu_a,
         alu_b: e.shown.alu_b,
         alu_out: e.shown.alu_out,
@@ -100,8 +108,15 @@ fn put(r: CycleRecord, out: &mut [u64])
     out[16] = last;
 }
 
-// Leaves the accumulator of a shift in cell 0.
-fn hold(scratch: Scratch, regs: &mut [u64; 64])
+// The accumulator of a shift lies in cell 0.
+fn accumulator(regs: &[u64; Cursor::REGS]) -> u64
+    ensures { λ r. ⌜ r ≡ accumulator (now (regs .entry)) ⌝ }
+{
+    regs[0]
+}
+
+// Leaves the accumulator there.
+fn hold(scratch: Scratch, regs: &mut [u64; Cursor::REGS])
     ensures { λ _. ⌜ now (regs .exit) ≡ scratched scratch (now (regs .entry)) ⌝ }
 {
     match scratch {
@@ -113,7 +128,7 @@ fn hold(scratch: Scratch, regs: &mut [u64; 64])
 }
 
 // Stores ram_new, if is_store is set.
-fn store(e: Effect, ram: &mut [u64; 256])
+fn store(e: Effect, ram: &mut [u64; Cursor::RAM_WORDS])
     requires { ⌜ Sound e ⌝ }
     ensures { λ _. ⌜ now (ram .exit) ≡ ramAfter e (now (ram .entry)) ⌝ }
 {
@@ -126,10 +141,10 @@ fn store(e: Effect, ram: &mut [u64; 256])
 // Writes the record of an effect at row `at`, and then does what it says to registers and RAM.
 fn put_effect(
     row: RomRow,
-    at: usize,
+    at: MicroPc,
     e: Effect,
-    regs: &mut [u64; 64],
-    ram: &mut [u64; 256],
+    regs: &mut [u64; Cursor::REGS],
+    ram: &mut [u64; Cursor::RAM_WORDS],
     out: &mut [u64],
 )
     requires { ⌜ InRange row × (Sound e × (length (now out) ≡ 17)) ⌝ }
@@ -138,8 +153,6 @@ fn put_effect(
     ensures { λ _. ⌜ now (out .exit) ≡ words (recordOf row at e (now (regs .entry)) (now (ram .entry))) ⌝ }
 {
     let record = record_of(row, at, e, regs, ram);
-    let scratch = e.scratch;
-    hold(scratch, regs);
     let rd = e.write.rd;
     regs[rd] = e.write.rd_val;
     store(e, ram);
@@ -157,31 +170,39 @@ fn commit(
     row: RomRow,
     core: Core,
     e: Effect,
-    regs: &mut [u64; 64],
-    ram: &mut [u64; 256],
+    regs: &mut [u64; Cursor::REGS],
+    ram: &mut [u64; Cursor::RAM_WORDS],
     out: &mut [u64],
 ) -> Core
     requires { ⌜ InRange row × (Sound e × ((core .cycles < 2 ^ 62) × (length (now out) ≡ 17))) ⌝ }
     ensures { λ r. ⌜ whole r (now (regs .exit)) (now (ram .exit)) ≡ commit row (whole core (now (regs .entry)) (now (ram .entry))) e .after ⌝ }
     ensures { λ _. ⌜ now (out .exit) ≡ words (commit row (whole core (now (regs .entry)) (now (ram .entry))) e .shown) ⌝ }
 {
-    put_effect(row, core.micro_pc.0, e, regs, ram, out);
+    let at = core.micro_pc;
+    put_effect(row, at, e, regs, ram, out);
+    let scratch = e.scratch;
+    hold(scratch, regs);
+    let next = e.next_pc;
     Core {
-        micro_pc: MicroPc(e.next_pc),
+        micro_pc: next,
         cycles: core.cycles + 1,
         halted: e.halts,
         output: output_after(e.halts, e.write.rd_val, core.output),
-        next_fetch: MicroPc(e.next_pc),
+        next_fetch: next,
     }
 }
 
 // The row after `at`. A compare is cheaper than a division.
-fn next_row(at: usize, count: usize) -> usize
-    requires { ⌜ at < count ⌝ }
-    ensures { λ r. ⌜ r ≡ suc at % count ⌝ }
+fn next_row(at: MicroPc, count: usize) -> MicroPc
+    requires { ⌜ at .0 < count ⌝ }
+    ensures { λ r. ⌜ r ≡ rowAfter at count ⌝ }
 {
-    let next = at + 1;
-    if next == count { 0 } else { next }
+    let next = at.0 + 1;
+    if next == count {
+        MicroPc(0)
+    } else {
+        MicroPc(next)
+    }
 }
 
 // One live cycle, `step`, of the row at micro_pc. Each arm ends the cycle itself: the compiler then knows which parts of
@@ -190,21 +211,28 @@ pub(crate) fn live_cycle(
     row: RomRow,
     count: usize,
     core: Core,
-    regs: &mut [u64; 64],
-    ram: &mut [u64; 256],
+    regs: &mut [u64; Cursor::REGS],
+    ram: &mut [u64; Cursor::RAM_WORDS],
     out: &mut [u64],
 ) -> Core
     requires { ⌜ InRange row × ((core .cycles < 2 ^ 62) × ((core .«micro_pc» .0 < count) × (length (now out) ≡ 17))) ⌝ }
     ensures { λ r. ⌜ whole r (now (regs .exit)) (now (ram .exit)) ≡ stepAt row count (whole core (now (regs .entry)) (now (ram .entry))) .after ⌝ }
     ensures { λ _. ⌜ now (out .exit) ≡ words (stepAt row count (whole core (now (regs .entry)) (now (ram .entry))) .shown) ⌝ }
 {
-    let mp = core.micro_pc.0;
+    let mp = core.micro_pc;
     let next = next_row(mp, count);
     let kind = row.kind;
     match kind {
         VirtualKind::Alu => commit(row, core, alu_arm(row, next, regs), regs, ram, out),
         VirtualKind::ShiftStage { stage } => {
-            commit(row, core, stage_arm(stage, row, next, regs), regs, ram, out)
+            commit(
+                row,
+                core,
+                stage_arm(stage, row, next, accumulator(regs), regs),
+                regs,
+                ram,
+                out,
+            )
         }
         VirtualKind::Load => commit(row, core, load_arm(row, next, regs, ram), regs, ram, out),
         VirtualKind::Store => commit(row, core, store_arm(row, next, regs, ram), regs, ram, out),
@@ -228,15 +256,15 @@ pub(crate) fn live_cycle(
 pub(crate) fn padding_cycle(
     row: RomRow,
     core: Core,
-    regs: &mut [u64; 64],
-    ram: &mut [u64; 256],
+    regs: &mut [u64; Cursor::REGS],
+    ram: &mut [u64; Cursor::RAM_WORDS],
     out: &mut [u64],
 )
     requires { ⌜ InRange row × (length (now out) ≡ 17) ⌝ }
     ensures { λ _. ⌜ whole core (now (regs .exit)) (now (ram .exit)) ≡ frozenAt row (whole core (now (regs .entry)) (now (ram .entry))) .after ⌝ }
     ensures { λ _. ⌜ now (out .exit) ≡ words (frozenAt row (whole core (now (regs .entry)) (now (ram .entry))) .shown) ⌝ }
 {
-    let at = core.next_fetch.0;
+    let at = core.next_fetch;
     let e = padding_arm(row, at, core.output, regs);
     put_effect(row, at, e, regs, ram, out);
 }

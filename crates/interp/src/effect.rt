@@ -2,6 +2,8 @@
 ghost use mathlib.Core.Path.{_≡_};
 ghost use Prim.Native.Nat.{_<_};
 ghost use Rattle.interp.specs.Cycle.{redirect, writes, keeps, noAccess, shows, effect};
+use crate::Cursor;
+use expand::MicroPc;
 
 // The register cell that a cycle writes.
 pub(crate) struct Write {
@@ -41,7 +43,7 @@ pub(crate) struct Effect {
     pub(crate) access: Access,
     pub(crate) shown: Shown,
     pub(crate) scratch: Scratch,
-    pub(crate) next_pc: usize,
+    pub(crate) next_pc: MicroPc,
     pub(crate) halts: bool,
 }
 
@@ -52,7 +54,7 @@ fn redirected(rd: usize) -> usize
     if rd == 0 { 32 } else { rd }
 }
 
-pub(crate) fn writes_to(rd: usize, v: u64, regs: &[u64; 64]) -> Write
+pub(crate) fn writes_to(rd: usize, v: u64, regs: &[u64; Cursor::REGS]) -> Write
     requires { ⌜ rd < 32 ⌝ }
     ensures { λ r. ⌜ r ≡ writes rd v (now (regs .entry)) ⌝ }
 {
@@ -66,7 +68,7 @@ pub(crate) fn writes_to(rd: usize, v: u64, regs: &[u64; 64]) -> Write
 }
 
 // Every cycle writes one cell: without a destination, cell 32 gets its own content.
-pub(crate) fn keeps_cell(regs: &[u64; 64]) -> Write
+pub(crate) fn keeps_cell(regs: &[u64; Cursor::REGS]) -> Write
     ensures { λ r. ⌜ r ≡ keeps (now (regs .entry)) ⌝ }
 {
     let old = regs[32];
@@ -103,7 +105,7 @@ pub(crate) fn showing(a: u64, b: u64, out: u64, shift: u64, flags: u64) -> Shown
 }
 
 // An effect that neither halts nor leaves a new accumulator.
-pub(crate) fn plain(write: Write, access: Access, shown: Shown, next: usize) -> Effect
+pub(crate) fn plain(write: Write, access: Access, shown: Shown, next: MicroPc) -> Effect
     ensures { λ r. ⌜ r ≡ effect write access shown next ⌝ }
 {
     Effect {

@@ -20,6 +20,12 @@ ghost use Rattle.interp.specs.Machine.{startOf};
 ghost use Rattle.interp.specs.Calls.{numberOf};
 use expand::MicroPc;
 
+// The registers: 32 of the architecture, and as many cells again, of which the first takes what is written to x0.
+pub const REGS: usize = 64;
+
+// RAM has 2^8 words.
+pub const RAM_WORDS_LOG2: usize = 8;
+
 // The most rows of a call.
 pub const MAX_ROWS: usize = 6291456;
 
@@ -35,8 +41,8 @@ pub const RECORD_WORDS: usize = 17;
 // The machine between two calls: the source's StreamCursor and ExecState in one.
 pub struct Cursor {
     // x0 to x31; cell 0 holds the accumulator of a shift, cell 32 what is written to x0.
-    pub regs: [u64; 64],
-    pub ram: [u64; 256],
+    pub regs: [u64; Cursor::REGS],
+    pub ram: [u64; Cursor::RAM_WORDS],
     pub micro_pc: MicroPc,
     pub cycles: u64,
     pub halted: bool,
@@ -47,9 +53,9 @@ pub struct Cursor {
 }
 
 impl Cursor {
-    pub const REGS: usize = 64;
+    pub const REGS: usize = REGS;
 
-    pub const RAM_WORDS: usize = 256;
+    pub const RAM_WORDS: usize = 1 << RAM_WORDS_LOG2;
 
     // The fresh cursor: all zero, the input in RAM from word 0; words past RAM_WORDS are ignored.
     pub fn start(input: &[u64]) -> Cursor

@@ -60,8 +60,8 @@ fn run_live(
     rows: &[u64],
     start: Core,
     limit: usize,
-    regs: &mut [u64; 64],
-    ram: &mut [u64; 256],
+    regs: &mut [u64; Cursor::REGS],
+    ram: &mut [u64; Cursor::RAM_WORDS],
     records: &mut [u64],
 ) -> Stopped
     requires { ⌜ Ready (length (now rows)) start limit (length (now records)) ⌝ }
@@ -102,8 +102,8 @@ fn run_padding(
     row: RomRow,
     core: Core,
     n: usize,
-    regs: &mut [u64; 64],
-    ram: &mut [u64; 256],
+    regs: &mut [u64; Cursor::REGS],
+    ram: &mut [u64; Cursor::RAM_WORDS],
     records: &mut [u64],
 )
     requires { ⌜ InRange row × (17 * n ≤ length (now records)) ⌝ }
@@ -128,8 +128,8 @@ fn run_padding(
 fn pad_rest(
     stopped: Stopped,
     due: usize,
-    regs: &mut [u64; 64],
-    ram: &mut [u64; 256],
+    regs: &mut [u64; Cursor::REGS],
+    ram: &mut [u64; Cursor::RAM_WORDS],
     records: &mut [u64],
 )
     requires { ⌜ InRange (stopped .row) × ((stopped .count ≤ due) × (17 * due ≤ length (now records))) ⌝ }
@@ -185,7 +185,7 @@ fn core_of(c: Cursor) -> Core
     }
 }
 
-fn whole_of(k: Core, regs: [u64; 64], ram: [u64; 256]) -> Cursor
+fn whole_of(k: Core, regs: [u64; Cursor::REGS], ram: [u64; Cursor::RAM_WORDS]) -> Cursor
     ensures { λ r. ⌜ r ≡ whole k regs ram ⌝ }
 {
     Cursor {

@@ -2,8 +2,9 @@
 // rows are the interpreter's.
 ghost use mathlib.Core.Path.{_≡_};
 ghost use Prim.Native.Nat.{_-_, _*_, _%_, _^_};
-ghost use Rattle.interp.specs.Values.{plus, minus, left, right, signedRight, less, flag, secondOperand, shift, sum, aluValue, upperValue, amount, stageValue, wordOf, offsetOf, byte, half, loadValue, storeWidth, storeValue, branchTaken, quarterOn, rowCount, branchTarget, jalrTarget, linkValue};
+ghost use Rattle.interp.specs.Values.{plus, minus, left, right, signedRight, less, flag, secondOperand, shift, sum, aluValue, upperValue, stageAmount, stageValue, ramAddrOf, byteOffsetOf, byte, half, loadValue, storeWidth, storeValue, branchTaken, quarterOn, rowCount, branchTarget, jalrTarget, linkValue};
 ghost use Rattle.interp.specs.Readings.{Signed};
+use expand::MicroPc;
 
 // The contract of std's function gives a from the answer; this one gives the answer.
 pub(crate) fn wrapping_sub(a: u64, b: u64) -> u64
@@ -100,11 +101,11 @@ pub(crate) fn alu_value(funct3: u32, raw: u32, a: u64, b: u64) -> u64
 }
 
 // What LUI and AUIPC write.
-pub(crate) fn upper_value(raw: u32, imm: u64, mp: usize) -> u64
+pub(crate) fn upper_value(raw: u32, imm: u64, mp: MicroPc) -> u64
     ensures { λ r. ⌜ r ≡ upperValue raw imm mp ⌝ }
 {
     if raw & 0x7f == 0x17 {
-        std::num::wrapping_add_u64(imm, (mp as u64) << 2)
+        std::num::wrapping_add_u64(imm, (mp.0 as u64) << 2)
     } else {
         imm
     }
@@ -112,7 +113,7 @@ pub(crate) fn upper_value(raw: u32, imm: u64, mp: usize) -> u64
 
 // No stage past the sixth shifts, so that every stage has an answer: a shift by 64 places or more has none.
 fn stage_amount(stage: usize, b: u64) -> u64
-    ensures { λ r. ⌜ r ≡ amount stage b ⌝ }
+    ensures { λ r. ⌜ r ≡ stageAmount stage b ⌝ }
 {
     if stage < 6 {
         ((b >> stage) & 1) << stage
@@ -135,16 +136,16 @@ pub(crate) fn address_of(a: u64, imm: u64) -> u64
     std::num::wrapping_add_u64(a, imm)
 }
 
-pub(crate) fn word_of(at: u64) -> usize
-    ensures { λ r. ⌜ r ≡ wordOf at ⌝ }
+pub(crate) fn ram_addr_of(address: u64) -> usize
+    ensures { λ r. ⌜ r ≡ ramAddrOf address ⌝ }
 {
-    (at / 8 % 256) as usize
+    (address / 8 % 256) as usize
 }
 
-pub(crate) fn offset_of(at: u64) -> u8
-    ensures { λ r. ⌜ r ≡ offsetOf at ⌝ }
+pub(crate) fn byte_offset_of(address: u64) -> u8
+    ensures { λ r. ⌜ r ≡ byteOffsetOf address ⌝ }
 {
-    (at % 8) as u8
+    (address % 8) as u8
 }
 
 // The closure `byte` of the source's extract_load.
@@ -241,26 +242,26 @@ fn row_count(rows: usize) -> usize
 }
 
 // The row that a branch or JAL at row mp goes to.
-pub(crate) fn branch_target(mp: usize, imm: u64, rows: usize) -> usize
+pub(crate) fn branch_target(mp: MicroPc, imm: u64, rows: usize) -> MicroPc
     ensures { λ r. ⌜ r ≡ branchTarget mp imm rows ⌝ }
 {
-    let to = quarter_on(mp, imm);
-    to % row_count(rows)
+    let to = quarter_on(mp.0, imm);
+    MicroPc(to % row_count(rows))
 }
 
 // The row that JALR goes to.
-pub(crate) fn jalr_target(a: u64, imm: u64, rows: usize) -> usize
+pub(crate) fn jalr_target(a: u64, imm: u64, rows: usize) -> MicroPc
     ensures { λ r. ⌜ r ≡ jalrTarget a imm rows ⌝ }
 {
     let to = std::num::wrapping_add_u64(a, imm) / 4;
-    to as usize % row_count(rows)
+    MicroPc(to as usize % row_count(rows))
 }
 
 // What a jump at row mp writes.
-pub(crate) fn link_value(mp: usize) -> u64
+pub(crate) fn link_value(mp: MicroPc) -> u64
     ensures { λ r. ⌜ r ≡ linkValue mp ⌝ }
 {
-    std::num::wrapping_add_u64((mp as u64) << 2, 4)
+    std::num::wrapping_add_u64((mp.0 as u64) << 2, 4)
 }
 
 // The forms that read a word as a signed number, and the six stages as one shift (specs/Claims.antt).

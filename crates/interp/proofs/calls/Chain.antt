@@ -11,7 +11,7 @@ use Rattle.interp.specs.declared.Cursor.{Cursor}
 use Rattle.interp.specs.declared.CycleRecord.{CycleRecord}
 use Rattle.interp.specs.Machine.{rowAt, words, flat}
 use Rattle.interp.specs.Replay.{Replay, word, stored, reads, all, musts, fed, feed, chunks}
-use Rattle.interp.proofs.arms.Laws.{Honest}
+use Rattle.interp.proofs.cycle.Honest.{Honest}
 
 -- ---- all tests of a list pass: each of them does
 

@@ -16,7 +16,7 @@ use Rattle.interp.specs.declared.CycleRecord.{CycleRecord}
 use Rattle.interp.specs.Machine.{words, flat}
 use Rattle.interp.specs.Cycle.{Step, cycle}
 use Rattle.interp.specs.Calls.{recorded, end, Call, segment, padded, amount, lent, turn, isSegment, refusals, refusalOf, settled, answerOf, counted, added, last, log, total, segments}
-use Rattle.interp.proofs.arms.Laws.{Fit, Honest, cycle-honest, padding-honest}
+use Rattle.interp.proofs.cycle.Honest.{Fit, Honest, cycle-honest, padding-honest}
 use Rattle.interp.proofs.calls.Chain.{Chain, done, more, join, length-flat}
 
 -- ---- n cycles

@@ -15,11 +15,11 @@ use Rattle.expand.proofs.Laws.{laws}
 use Rattle.interp.specs.declared.Cursor.{Cursor}
 use Rattle.interp.specs.declared.CycleRecord.{CycleRecord}
 use Rattle.interp.specs.Machine.{rowAt, flat}
-use Rattle.interp.specs.Cycle.{Step, commit, stepAt, live, frozenAt, padding, cycle}
+use Rattle.interp.specs.Cycle.{Step, accumulator, commit, stepAt, live, frozenAt, padding, cycle}
 use Rattle.interp.specs.Calls.{recorded, end}
 use Rattle.interp.specs.Execute.{liveCount, liveRecords, stoppedAt}
 use Rattle.interp.specs.Code.{stepOf}
-use Rattle.interp.proofs.arms.Laws.{arm-lawful}
+use Rattle.interp.proofs.arms.Lawful.{arm-lawful}
 use Rattle.interp.proofs.calls.Runs.{flat-append, length-words}
 
 -- ---- cycles that agree where P holds, which they keep
@@ -191,7 +191,7 @@ pub live-kept : (rows : List ℕ) (c : Cursor) → c .«micro_pc» .0 < length r
 unfolding live stepAt commit
 live-kept rows c h =
     let row = rowAt rows (c .«micro_pc» .0) in
-    let next = arm-lawful row (c .«micro_pc» .0) (length rows) (c .regs) (laws .rd _) h (row .kind) (c .ram) .next in
+    let next = arm-lawful row (c .«micro_pc») (length rows) (c .regs) (laws .rd _) h (row .kind) (accumulator (c .regs)) (c .ram) .next in
     (next, (next, refl))
 
 pub live-on : (rows : List ℕ) (n : ℕ) (c₀ c : Cursor) (i : ℕ) → Live rows n c₀ c i → c .halted ≡ false → i < n

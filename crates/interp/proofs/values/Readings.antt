@@ -10,16 +10,16 @@ use lib.Signed.{ltZ, shrZ, quotZ}
 use lib.Pow.{shr-le}
 use borrow.Author.Tests.{lt-ltb, le-ltb}
 use Rattle.interp.specs.Values.{plus, less, signedRight, quarterOn}
-use Rattle.interp.specs.Readings.{signed, clamp, Signed}
+use Rattle.interp.specs.Readings.{signedWord, clamp, Signed}
 use Rattle.interp.proofs.values.Words.{lt-or-ge}
 use Rattle.interp.proofs.values.Shifts.{below, above, in-turn}
 
 -- ---- the signed number of a word, in each half
 
-pub signed-low : (x : ℕ) → x < 2 ^ 63 → signed x ≡ pos x
+pub signed-low : (x : ℕ) → x < 2 ^ 63 → signedWord x ≡ pos x
 signed-low x h = rw (lt-ltb x (2 ^ 63) h)
 
-pub signed-high : (x : ℕ) → 2 ^ 63 ≤ x → x < 2 ^ 64 → signed x ≡ negsuc (2 ^ 64 - suc x)
+pub signed-high : (x : ℕ) → 2 ^ 63 ≤ x → x < 2 ^ 64 → signedWord x ≡ negsuc (2 ^ 64 - suc x)
 signed-high x l h = rw (le-ltb x (2 ^ 63) l, lt-ltb x (2 ^ 64) h)
 
 -- ---- the order
@@ -27,7 +27,7 @@ signed-high x l h = rw (le-ltb x (2 ^ 63) l, lt-ltb x (2 ^ 64) h)
 same-test : (a b c d : ℕ) → (a < b → c < d) → (b ≤ a → d ≤ c) → ltb a b ≡ ltb c d
 same-test a b c d f g = ⊎-elim (λ h. lt-ltb a b h ∙ sym (lt-ltb c d (f h))) (λ h. le-ltb a b h ∙ sym (le-ltb c d (g h))) (lt-or-ge a b)
 
-less-signed : (a b : ℕ) → a < 2 ^ 64 → b < 2 ^ 64 → less a b ≡ ltZ (signed a) (signed b)
+less-signed : (a b : ℕ) → a < 2 ^ 64 → b < 2 ^ 64 → less a b ≡ ltZ (signedWord a) (signedWord b)
 less-signed a b ha hb =
     let x = plus a (2 ^ 63) in
     let y = plus b (2 ^ 63) in
@@ -44,19 +44,19 @@ less-signed a b ha hb =
 
 -- ---- the shift that keeps the sign
 
-floor : (a k : ℕ) → a < 2 ^ 64 → signed (signedRight a k) ≡ shrZ (signed a) (2 ^ k)
+floor : (a k : ℕ) → a < 2 ^ 64 → signedWord (signedRight a k) ≡ shrZ (signedWord a) (2 ^ k)
 floor a k h =
     ⊎-elim
     (λ l.
     let m : a / 2 ^ k ≤ a = shr-le a k in
-    ap signed (below a k l) ∙ signed-low (a / 2 ^ k) (omega arith) ∙ ap (λ (z : ℤ). shrZ z (2 ^ k)) (sym (signed-low a l)))
+    ap signedWord (below a k l) ∙ signed-low (a / 2 ^ k) (omega arith) ∙ ap (λ (z : ℤ). shrZ z (2 ^ k)) (sym (signed-low a l)))
     (λ l.
     let y = 2 ^ 64 - 1 - a in
     let z = y / 2 ^ k in
     let m : z ≤ y = shr-le y k in
     let e : 2 ^ 64 - suc (2 ^ 64 - 1 - z) ≡ z = omega arith in
     let f : y ≡ 2 ^ 64 - suc a = omega arith in
-    ap signed (above a k l) ∙ signed-high (2 ^ 64 - 1 - z) (omega arith) (omega arith) ∙ ap negsuc (e ∙ ap (λ (n : ℕ). n / 2 ^ k) f)
+    ap signedWord (above a k l) ∙ signed-high (2 ^ 64 - 1 - z) (omega arith) (omega arith) ∙ ap negsuc (e ∙ ap (λ (n : ℕ). n / 2 ^ k) f)
     ∙ ap (λ (n : ℤ). shrZ n (2 ^ k)) (sym (signed-high a l h)))
     (lt-or-ge a (2 ^ 63))
 
@@ -66,7 +66,7 @@ clamp-sub : (m q : ℕ) → m - q ≡ clamp (pos m +ℤ negℤ (pos q))
 clamp-sub m zero = omega arith
 clamp-sub m (suc q) = ⊎-elim (λ h. rw (lt-ltb m (suc q) h) (omega arith)) (λ h. rw (le-ltb m (suc q) h) (omega arith)) (lt-or-ge m (suc q))
 
-quarters : (mp imm : ℕ) → mp < 2 ^ 61 → imm < 2 ^ 64 → quarterOn mp imm ≡ clamp (pos mp +ℤ quotZ (signed imm) (pos 4))
+quarters : (mp imm : ℕ) → mp < 2 ^ 61 → imm < 2 ^ 64 → quarterOn mp imm ≡ clamp (pos mp +ℤ quotZ (signedWord imm) (pos 4))
 unfolding quarterOn
 quarters mp imm m h =
     ⊎-elim

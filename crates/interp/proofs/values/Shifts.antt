@@ -9,8 +9,8 @@ use native.Mathlib.Omega.{arith}
 use lib.Dec.{eqb}
 use lib.Pow.{pow-add, pow-mono, shr-le, shr-shr, mod-pow-add}
 use borrow.Author.Tests.{lt-ltb, le-ltb}
-use Rattle.interp.specs.Values.{left, right, signedRight, alternate, shiftAt, shift, amount, stageValue}
-use Rattle.interp.specs.Readings.{stages}
+use Rattle.interp.specs.Values.{left, right, signedRight, alternate, shiftAt, shift, stageAmount, stageValue}
+use Rattle.interp.specs.Readings.{stagesValue}
 use Rattle.interp.proofs.values.Words.{lt-or-ge}
 
 -- ---- a stage's amount
@@ -22,8 +22,8 @@ bit-lt k d hk hd =
     let p : 2 ^ k ≤ 2 ^ 5 = pow-mono {i = k} {j = 5} (omega arith) in
     omega arith
 
-pub amount-lt : (k b : ℕ) → amount k b < 64
-unfolding amount
+pub amount-lt : (k b : ℕ) → stageAmount k b < 64
+unfolding stageAmount
 amount-lt k b =
     ⊎-elim
     (λ h. rw (lt-ltb k 6 h) (bit-lt k (b / 2 ^ k % 2) h (omega arith)))
@@ -85,21 +85,21 @@ shift-twice false false t x i j = refl
 -- ---- the stages in turn
 
 -- one more bit
-grown : (k b : ℕ) → k < 6 → b % 2 ^ k + amount k b ≡ b % 2 ^ suc k
-unfolding amount
+grown : (k b : ℕ) → k < 6 → b % 2 ^ k + stageAmount k b ≡ b % 2 ^ suc k
+unfolding stageAmount
 grown k b h =
     rw (lt-ltb k 6 h) (add-comm (b % 2 ^ k) (b / 2 ^ k % 2 * 2 ^ k) ∙ sym (mod-pow-add b 1 k) ∙ ap (λ (n : ℕ). b % 2 ^ n) (one-add k))
 
 -- a stage takes the shift by the k low bits of b to that by one more
 pub one-stage : (k f raw a b : ℕ) → k < 6 → stageValue k f raw (shift f raw a (b % 2 ^ k)) b ≡ shift f raw a (b % 2 ^ suc k)
-one-stage k f raw a b h = shift-twice (eqb f 1) (eqb f 5) (alternate raw) a (b % 2 ^ k) (amount k b) ∙ ap (shift f raw a) (grown k b h)
+one-stage k f raw a b h = shift-twice (eqb f 1) (eqb f 5) (alternate raw) a (b % 2 ^ k) (stageAmount k b) ∙ ap (shift f raw a) (grown k b h)
 
 -- the first stage takes the operand itself
 first-stage : (f raw a b : ℕ) → stageValue 0 f raw a b ≡ shift f raw a (b % 2 ^ 1)
-first-stage f raw a b = ap (shift f raw a) (let e : b % 2 ^ 0 + amount 0 b ≡ b % 2 ^ 1 = grown 0 b (omega arith) in omega arith)
+first-stage f raw a b = ap (shift f raw a) (let e : b % 2 ^ 0 + stageAmount 0 b ≡ b % 2 ^ 1 = grown 0 b (omega arith) in omega arith)
 
 -- the stages 0 to k
-pub in-turn : (k f raw a b : ℕ) → k < 6 → stages k f raw a b ≡ shift f raw a (b % 2 ^ suc k)
-unfolding stages
+pub in-turn : (k f raw a b : ℕ) → k < 6 → stagesValue k f raw a b ≡ shift f raw a (b % 2 ^ suc k)
+unfolding stagesValue
 in-turn zero f raw a b h = first-stage f raw a b
 in-turn (suc k) f raw a b h = ap (λ (acc : ℕ). stageValue (suc k) f raw acc b) (in-turn k f raw a b (omega arith)) ∙ one-stage (suc k) f raw a b h

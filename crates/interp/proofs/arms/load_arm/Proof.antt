@@ -6,7 +6,7 @@ use Rattle.interp.proofs.arms.load_arm.Tie as tie
 
 returns : tie.Need-returns
 unfolding loadArm
-returns c = simp (c .plain .ensures, c .before .writes-to .ensures, c .before .before .showing .ensures, c .before .before .before .load-flags .ensures, c .before .before .before .before .extract-load .ensures, c .before .before .before .before .before .before .offset-of .ensures, c .before .before .before .before .before .before .before .word-of .ensures, c .before .before .before .before .before .before .before .before .address-of .ensures)
+returns c = simp (c .plain .ensures, c .before .writes-to .ensures, c .before .before .showing .ensures, c .before .before .before .load-flags .ensures, c .before .before .before .before .extract-load .ensures, c .before .before .before .before .before .before .byte-offset-of .ensures, c .before .before .before .before .before .before .before .ram-addr-of .ensures, c .before .before .before .before .before .before .before .before .address-of .ensures)
 
 pub load-arm-spec : {M : Type 1} → statement M
 load-arm-spec =

@@ -4,13 +4,18 @@ use Prim.Native.Nat.{suc}
 use native.Mathlib.Omega.{arith}
 use denote.Ref.{now}
 use Rattle.interp.specs.Cycle.{frozenAt}
-use Rattle.interp.proofs.arms.Laws.{padding-lawful}
+use Rattle.interp.proofs.arms.Lawful.{padding-lawful}
 use borrow.Author.Needs.{needs}
 use Rattle.interp.proofs.cycle.padding_cycle.Statement.{statement}
 use Rattle.interp.proofs.cycle.padding_cycle.Tie as tie
 
 put-effect-requires : tie.Need-put-effect-requires
-put-effect-requires c κs = let start = c .before .before .before .before .before .before in let a = start .args in let at = a .core .«next_fetch» .0 in let sound = padding-lawful (a .row) at (suc at) (now (a .regs)) (start .pre .0 .rd) (omega arith) (a .core .output) .sound in (start .pre .0, (rw (c .before .before .before .padding-arm .ensures) sound, start .pre .1))
+put-effect-requires c κs =
+    let start = c .before .before .before .before .before .before .before in
+    let a = start .args in
+    let at = a .core .«next_fetch» in
+    let sound = padding-lawful (a .row) at (suc (at .0)) (now (a .regs)) (start .pre .0 .rd) (omega arith) (a .core .output) .sound in
+    (start .pre .0, (rw (c .before .before .before .padding-arm .ensures) sound, start .pre .1))
 
 returns : tie.Need-returns
 unfolding frozenAt

@@ -1,7 +1,7 @@
 -- `interp::writes_to` meets its contract. Assumes nothing.
 use Prim.Native.Nat.{_<_}
 use native.Mathlib.Omega.{arith}
-use Rattle.interp.proofs.arms.Laws.{redirect-lt}
+use Rattle.interp.proofs.arms.Lawful.{redirect-lt}
 use borrow.Author.Needs.{needs}
 use Rattle.interp.proofs.effect.writes_to.Statement.{statement}
 use Rattle.interp.proofs.effect.writes_to.Tie as tie

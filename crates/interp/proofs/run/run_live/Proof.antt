@@ -14,7 +14,7 @@ use Rattle.interp.specs.Cycle.{stepAt, live}
 use Rattle.interp.specs.Calls.{recorded, end}
 use Rattle.interp.specs.Execute.{liveCount}
 use Rattle.interp.specs.Code.{whole}
-use Rattle.interp.proofs.arms.Laws.{row-in}
+use Rattle.interp.proofs.arms.Lawful.{row-in}
 use Rattle.interp.proofs.run.Loops.{Going, going-on}
 use Rattle.interp.proofs.run.Halting.{Live, live-on, fetch-lt, not-over, count-over}
 use borrow.Author.Needs.{needs}

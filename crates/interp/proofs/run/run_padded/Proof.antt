@@ -5,7 +5,7 @@ use native.Mathlib.Omega.{arith}
 use denote.Ref.{now}
 use Rattle.interp.specs.Execute.{liveCount}
 use Rattle.interp.specs.Code.{whole, dueOf}
-use Rattle.interp.proofs.arms.Laws.{row-in}
+use Rattle.interp.proofs.arms.Lawful.{row-in}
 use Rattle.interp.proofs.run.Halting.{count-most, padded-cursor, padded-words}
 use borrow.Author.Needs.{needs}
 use Rattle.interp.proofs.run.run_padded.Statement.{statement}
