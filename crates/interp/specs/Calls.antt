@@ -61,17 +61,17 @@ rowLines rows =
     ∷ line 3 (not (isExpansion rows))
     ∷ []
 
--- the lines that a call of n cycles meets, with so many rows and so many words of room; only a segment call meets 5
+-- the lines that a call of n cycles meets, with so many rows and so many words of room; only a segment call, seg, meets 5
 abbrev pub callLines : ℕ → Cursor → Bool → ℕ → ℕ → List Line
-callLines count c live n room =
+callLines count c seg n room =
     line 4 (not (ltb (c .«micro_pc» .0) count && ltb (c .«next_fetch» .0) count))
-    ∷ line 5 (live && ltb (2 ^ 62) (c .cycles + n))
+    ∷ line 5 (seg && ltb (2 ^ 62) (c .cycles + n))
     ∷ line 6 (ltb room (17 * n))
     ∷ []
 
 -- the table of refusals of a call, lowest number first
 abbrev pub refusals : List ℕ → Cursor → Bool → ℕ → ℕ → List Line
-refusals rows c live n room = rowLines rows ++ callLines (length rows) c live n room
+refusals rows c seg n room = rowLines rows ++ callLines (length rows) c seg n room
 
 -- the number that a call returns: 0 is accepted
 unfoldable pub refusalOf : List ℕ → Cursor → Call → ℕ
@@ -98,18 +98,18 @@ unfoldable pub answerOf : List ℕ → Cursor → Call → Answered
 answerOf rows c k = settled (refusalOf rows c k) rows c k
 
 -- the paper's number of a refusal
-abbrev pub numberOf : Refusal → ℕ
-numberOf NoRows = 1
-numberOf TooManyRows = 2
-numberOf NoExpansion = 3
-numberOf OutsideRows = 4
-numberOf TooManyCycles = 5
-numberOf Short = 6
+abbrev pub refusalNumber : Refusal → ℕ
+refusalNumber NoRows = 1
+refusalNumber TooManyRows = 2
+refusalNumber NoExpansion = 3
+refusalNumber OutsideRows = 4
+refusalNumber TooManyCycles = 5
+refusalNumber Short = 6
 
 -- the paper's number of an outcome: 0 for accepted
 abbrev pub outcomeNumber : Outcome → ℕ
 outcomeNumber Accepted = 0
-outcomeNumber (Refused why) = numberOf why
+outcomeNumber (Refused why) = refusalNumber why
 
 -- ---- a list of calls, each of which gets the cursor that the one before returned
 

@@ -1,13 +1,16 @@
--- What the private functions of src/lib.rt ask of their arguments and leave, and the two halves of a cursor that the loops work on.
+-- What the private functions of src/ ask of their arguments and leave, and the two halves of a cursor that the loops work on.
 -- Assumes nothing: these are definitions.
 use Prim.Native.Nat.{ℕ, _+_, _-_, _*_, _^_, _≤_, _<_}
 use mathlib.Core.Bool.{Bool, cond}
 use mathlib.Core.List.{List, _++_}
+use lib.Dec.{eqb}
 use lib.ListN.{drop}
 use Rattle.expand.specs.declared.RomRow.{RomRow}
 use Rattle.interp.specs.declared.cycle.Core.{Core}
 use Rattle.interp.specs.declared.Cursor.{Cursor}
 use Rattle.interp.specs.declared.effect.Effect.{Effect}
+use Rattle.interp.specs.declared.run.Due.{Due}
+use Rattle.interp.specs.declared.run.Due.the-variants.{Exactly, PowerOfTwo}
 use Rattle.interp.specs.Machine.{flat}
 use Rattle.interp.specs.Cycle.{Step, cycle, padding}
 use Rattle.interp.specs.Calls.{recorded, end, Call, segment, padded}
@@ -57,32 +60,37 @@ pub record Ready (count : ℕ) (k : Core) (n room : ℕ) : Type 0 where
   pub fits : 17 * n ≤ room
 
 -- how many records are due after so many live cycles
-abbrev pub dueOf : Bool → ℕ → ℕ → ℕ
-dueOf exact n count = cond exact n (nextPowerOfTwo count)
+abbrev pub dueOf : Due → ℕ → ℕ
+dueOf (Exactly n) count = n
+dueOf PowerOfTwo count = nextPowerOfTwo count
 
 -- the records that are due hold the live ones and have room, however many cycles up to the limit were live
-pub record Room (exact : Bool) (n limit room : ℕ) : Type 0 where
-  pub enough : (count : ℕ) → count ≤ limit → count ≤ dueOf exact n count
-  pub fits : (count : ℕ) → count ≤ limit → 17 * dueOf exact n count ≤ room
+pub record Room (due : Due) (limit room : ℕ) : Type 0 where
+  pub enough : (count : ℕ) → count ≤ limit → count ≤ dueOf due count
+  pub fits : (count : ℕ) → count ≤ limit → 17 * dueOf due count ≤ room
 
 -- what live cycles and then padding up to the records that are due leave
-abbrev pub paddedTo : Bool → ℕ → List ℕ → ℕ → Cursor → List ℕ → Executed
-paddedTo exact n rows limit c buffer =
+abbrev pub paddedTo : Due → List ℕ → ℕ → Cursor → List ℕ → Executed
+paddedTo due rows limit c buffer =
     let taken = liveCount rows limit c in
-    let due = dueOf exact n taken in
+    let count = dueOf due taken in
     let stopped = stoppedAt rows limit c in
     record {
       number = 0;
-      live = taken;
-      count = due;
-      cursor = end (padding rows) (due - taken) stopped;
-      buffer = flat (liveRecords rows limit c) ++ (flat (recorded (padding rows) (due - taken) stopped) ++ drop (17 * due) buffer);
+      live-count = taken;
+      record-count = count;
+      cursor = end (padding rows) (count - taken) stopped;
+      buffer = flat (liveRecords rows limit c) ++ (flat (recorded (padding rows) (count - taken) stopped) ++ drop (17 * count) buffer);
     }
 
--- the cycle of a call: of a segment call if live, else of a padding call
+-- the cycle of a segment call if seg, else of a padding call
 abbrev pub stepOf : Bool → List ℕ → Cursor → Step
-stepOf live rows = cond live (cycle rows) (padding rows)
+stepOf seg rows = cond seg (cycle rows) (padding rows)
 
--- the segment call if live, else the padding call
+-- the segment call if seg, else the padding call
 abbrev pub callOf : Bool → ℕ → List ℕ → Call
-callOf live n buffer = cond live (segment n buffer) (padded n buffer)
+callOf seg n buffer = cond seg (segment n buffer) (padded n buffer)
+
+-- of the numbers of two parts of a table of refusals, the first that is not 0
+abbrev pub firstOf : ℕ → ℕ → ℕ
+firstOf first rest = cond (eqb first 0) rest first

@@ -8,30 +8,41 @@ use crate::Answer;
 use crate::Cursor;
 use crate::Outcome;
 use crate::refusals::judge;
+use crate::refusals::judge_cycles;
+use crate::run::Due;
 use crate::run::run_padded;
 
 // The most live cycles of a call of n cycles: a padding call has none.
-fn live_limit(live: bool, n: usize) -> usize
-    ensures { λ r. ⌜ r ≡ cond live n 0 ⌝ }
+fn live_limit(is_segment: bool, n: usize) -> usize
+    ensures { λ r. ⌜ r ≡ cond «is_segment» n 0 ⌝ }
 {
-    if live { n } else { 0 }
+    if is_segment { n } else { 0 }
 }
 
-// What both calls do: the segment call if `live`, else the padding call.
-fn answer_call(live: bool, rows: &[u64], cursor: Cursor, n: u64, records: &mut [u64]) -> Answer
-    ensures answer { λ r. ⌜ outcomeNumber (r .outcome) ≡ answerOf (now (rows .entry)) cursor (callOf live n (now (records .entry))) .number ⌝ }
-    ensures cursor { λ r. ⌜ r .cursor ≡ answerOf (now (rows .entry)) cursor (callOf live n (now (records .entry))) .cursor ⌝ }
-    ensures records { λ _. ⌜ now (records .exit) ≡ answerOf (now (rows .entry)) cursor (callOf live n (now (records .entry))) .buffer ⌝ }
+// What both calls do.
+fn answer_call(
+    is_segment: bool,
+    rows: &[u64],
+    cursor: Cursor,
+    n: u64,
+    records: &mut [u64],
+) -> Answer
+    ensures answer { λ r. ⌜ outcomeNumber (r .outcome) ≡ answerOf (now (rows .entry)) cursor (callOf «is_segment» n (now (records .entry))) .number ⌝ }
+    ensures cursor { λ r. ⌜ r .cursor ≡ answerOf (now (rows .entry)) cursor (callOf «is_segment» n (now (records .entry))) .cursor ⌝ }
+    ensures records { λ _. ⌜ now (records .exit) ≡ answerOf (now (rows .entry)) cursor (callOf «is_segment» n (now (records .entry))) .buffer ⌝ }
 {
-    let outcome = judge(rows, cursor, live, n, records.len());
+    let outcome = judge(
+        rows,
+        judge_cycles(rows.len(), cursor, is_segment, n, records.len()),
+    );
     match outcome {
         Outcome::Refused(_) => Answer {
             outcome: outcome,
             cursor: cursor,
         },
         Outcome::Accepted => {
-            let limit = live_limit(live, n as usize);
-            let ran = run_padded(rows, cursor, limit, true, n as usize, records);
+            let limit = live_limit(is_segment, n as usize);
+            let ran = run_padded(rows, cursor, limit, Due::Exactly(n as usize), records);
             let after = ran.cursor;
             Answer {
                 outcome: outcome,

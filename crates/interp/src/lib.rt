@@ -17,7 +17,7 @@ pub use executing::execute_laws;
 pub use values::signed_readings;
 ghost use mathlib.Core.Path.{_≡_};
 ghost use Rattle.interp.specs.Machine.{startOf};
-ghost use Rattle.interp.specs.Calls.{numberOf};
+ghost use Rattle.interp.specs.Calls.{refusalNumber};
 use expand::MicroPc;
 
 // The registers: 32 of the architecture, and as many cells again, of which the first takes what is written to x0.
@@ -29,11 +29,11 @@ pub const RAM_WORDS_LOG2: usize = 8;
 // The most rows of a call.
 pub const MAX_ROWS: usize = 6291456;
 
-// The most cycles of a machine.
-pub const MAX_CYCLES: u64 = 0x4000_0000_0000_0000;
+// The most that the cycles of a cursor and the length of a segment are together.
+pub const MAX_TOTAL_CYCLES: u64 = 0x4000_0000_0000_0000;
 
-// The most cycles of execute.
-pub const MAX_EXECUTED: u64 = 0x1_0000_0000;
+// The most that max_cycles of execute is.
+pub const MAX_EXECUTE_CYCLES: u64 = 0x1_0000_0000;
 
 // The words of a record.
 pub const RECORD_WORDS: usize = 17;
@@ -138,7 +138,7 @@ pub enum Refusal {
     NoExpansion,
     // 4: micro_pc or next_fetch is no row.
     OutsideRows,
-    // 5: cycles and length are over MAX_CYCLES together, or max_cycles is over MAX_EXECUTED.
+    // 5: cycles and length are over MAX_TOTAL_CYCLES together, or max_cycles is over MAX_EXECUTE_CYCLES.
     TooManyCycles,
     // 6: the buffer has fewer than 17 words a record.
     Short,
@@ -147,7 +147,7 @@ pub enum Refusal {
 impl Refusal {
     // Its number in document 01's table.
     pub fn number(self) -> u64
-        ensures { λ r. ⌜ r ≡ numberOf self ⌝ }
+        ensures { λ r. ⌜ r ≡ refusalNumber self ⌝ }
     {
         match self {
             Refusal::NoRows => 1,

@@ -4,12 +4,13 @@ ghost use Prim.Native.Nat.{_+_, _*_, _^_};
 ghost use mathlib.Core.Bool.{not, _&&_};
 ghost use lib.Dec.{ltb};
 ghost use Rattle.expand.specs.Expand.{lowest};
-ghost use Rattle.interp.specs.Calls.{rowLines, callLines, refusals, outcomeNumber};
-ghost use Rattle.interp.specs.Execute.{lengthLines, executeRefusals};
+ghost use Rattle.interp.specs.Calls.{rowLines, callLines, outcomeNumber};
+ghost use Rattle.interp.specs.Code.{firstOf};
+ghost use Rattle.interp.specs.Execute.{lengthLines};
 use crate::Cursor;
-use crate::MAX_CYCLES;
-use crate::MAX_EXECUTED;
+use crate::MAX_EXECUTE_CYCLES;
 use crate::MAX_ROWS;
+use crate::MAX_TOTAL_CYCLES;
 use crate::Outcome;
 use crate::RECORD_WORDS;
 use crate::Refusal;
@@ -23,14 +24,14 @@ fn is_outside(pc: usize, fetch: usize, count: usize) -> bool
 }
 
 // Refusal 5. The sum is not made: both numbers are any u64.
-fn is_too_long(live: bool, cycles: u64, n: u64) -> bool
-    ensures { λ r. ⌜ r ≡ (live && ltb (2 ^ 62) (cycles + n)) ⌝ }
+fn is_too_long(is_segment: bool, cycles: u64, n: u64) -> bool
+    ensures { λ r. ⌜ r ≡ («is_segment» && ltb (2 ^ 62) (cycles + n)) ⌝ }
 {
-    if live {
-        if MAX_CYCLES < n {
+    if is_segment {
+        if MAX_TOTAL_CYCLES < n {
             return true;
         }
-        return MAX_CYCLES - n < cycles;
+        return MAX_TOTAL_CYCLES - n < cycles;
     }
     false
 }
@@ -58,14 +59,20 @@ fn judge_rows(rows: &[u64]) -> Outcome
     Outcome::Accepted
 }
 
-// The refusals of a segment call, if `live`, or a padding call that its rows do not meet.
-fn judge_cycles(count: usize, c: Cursor, live: bool, n: u64, room: usize) -> Outcome
-    ensures { λ r. ⌜ outcomeNumber r ≡ lowest (callLines count c live n room) ⌝ }
+// The refusals of a segment call or a padding call that its rows do not meet.
+pub(crate) fn judge_cycles(
+    count: usize,
+    c: Cursor,
+    is_segment: bool,
+    n: u64,
+    room: usize,
+) -> Outcome
+    ensures { λ r. ⌜ outcomeNumber r ≡ lowest (callLines count c «is_segment» n room) ⌝ }
 {
     if is_outside(c.micro_pc.0, c.next_fetch.0, count) {
         return Outcome::Refused(Refusal::OutsideRows);
     }
-    if is_too_long(live, c.cycles, n) {
+    if is_too_long(is_segment, c.cycles, n) {
         return Outcome::Refused(Refusal::TooManyCycles);
     }
     if is_short(room, n) {
@@ -74,22 +81,11 @@ fn judge_cycles(count: usize, c: Cursor, live: bool, n: u64, room: usize) -> Out
     Outcome::Accepted
 }
 
-// Whether a call of n cycles is accepted: the refusals of document 01's table, lowest number first.
-pub(crate) fn judge(rows: &[u64], c: Cursor, live: bool, n: u64, room: usize) -> Outcome
-    ensures { λ r. ⌜ outcomeNumber r ≡ lowest (refusals (now (rows .entry)) c live n room) ⌝ }
-{
-    let judged = judge_rows(rows);
-    match judged {
-        Outcome::Refused(_) => judged,
-        Outcome::Accepted => judge_cycles(rows.len(), c, live, n, room),
-    }
-}
-
 // The refusals of execute that its rows do not meet.
-fn judge_length(max_cycles: u64, room: usize) -> Outcome
+pub(crate) fn judge_length(max_cycles: u64, room: usize) -> Outcome
     ensures { λ r. ⌜ outcomeNumber r ≡ lowest (lengthLines «max_cycles» room) ⌝ }
 {
-    if MAX_EXECUTED < max_cycles {
+    if MAX_EXECUTE_CYCLES < max_cycles {
         return Outcome::Refused(Refusal::TooManyCycles);
     }
     if is_short(room, next_power_of_two(max_cycles)) {
@@ -98,13 +94,13 @@ fn judge_length(max_cycles: u64, room: usize) -> Outcome
     Outcome::Accepted
 }
 
-// Whether execute is accepted: its refusals, lowest number first.
-pub(crate) fn judge_execution(rows: &[u64], max_cycles: u64, room: usize) -> Outcome
-    ensures { λ r. ⌜ outcomeNumber r ≡ lowest (executeRefusals (now (rows .entry)) «max_cycles» room) ⌝ }
+// The outcome of a call with rows: their refusals have the lowest numbers, and `rest` is the outcome of all other tests.
+pub(crate) fn judge(rows: &[u64], rest: Outcome) -> Outcome
+    ensures { λ r. ⌜ outcomeNumber r ≡ firstOf (lowest (rowLines (now (rows .entry)))) (outcomeNumber rest) ⌝ }
 {
     let judged = judge_rows(rows);
     match judged {
         Outcome::Refused(_) => judged,
-        Outcome::Accepted => judge_length(max_cycles, room),
+        Outcome::Accepted => rest,
     }
 }

@@ -21,6 +21,14 @@ use crate::cycle::padding_cycle;
 use expand::MicroPc;
 use expand::RomRow;
 
+// How many records are due.
+pub(crate) enum Due {
+    // As many as the call was asked for.
+    Exactly(usize),
+    // The smallest power of two that holds the live ones.
+    PowerOfTwo,
+}
+
 // Where the live cycles of a call ended: the numbers of the cursor, how many live cycles there were, and the row at next_fetch.
 struct Stopped {
     core: Core,
@@ -161,15 +169,14 @@ pub(crate) fn next_power_of_two(n: u64) -> u64
     p
 }
 
-// How many records a call makes that had so many live cycles: `n` if `exact`, else the power of two.
-fn due_of(exact: bool, n: usize, count: usize) -> usize
+// How many records a call makes that had so many live cycles.
+fn due_of(due: Due, count: usize) -> usize
     requires { ⌜ count ≤ 2 ^ 62 ⌝ }
-    ensures { λ r. ⌜ r ≡ dueOf exact n count ⌝ }
+    ensures { λ r. ⌜ r ≡ dueOf due count ⌝ }
 {
-    if exact {
-        n
-    } else {
-        next_power_of_two(count as u64) as usize
+    match due {
+        Due::Exactly(n) => n,
+        Due::PowerOfTwo => next_power_of_two(count as u64) as usize,
     }
 }
 
@@ -206,29 +213,28 @@ pub(crate) fn run_padded(
     rows: &[u64],
     cursor: Cursor,
     limit: usize,
-    exact: bool,
-    n: usize,
+    due: Due,
     records: &mut [u64],
 ) -> Execution
-    requires { ⌜ Ready (length (now rows)) (coreOf cursor) limit (length (now records)) × Room exact n limit (length (now records)) ⌝ }
+    requires { ⌜ Ready (length (now rows)) (coreOf cursor) limit (length (now records)) × Room due limit (length (now records)) ⌝ }
     ensures { λ r. ⌜ r .outcome ≡ Accepted ⌝ }
-    ensures { λ r. ⌜ r .«live_count» ≡ paddedTo exact n (now (rows .entry)) limit cursor (now (records .entry)) .live ⌝ }
-    ensures { λ r. ⌜ r .«record_count» ≡ paddedTo exact n (now (rows .entry)) limit cursor (now (records .entry)) .count ⌝ }
-    ensures { λ r. ⌜ r .cursor ≡ paddedTo exact n (now (rows .entry)) limit cursor (now (records .entry)) .cursor ⌝ }
-    ensures { λ _. ⌜ now (records .exit) ≡ paddedTo exact n (now (rows .entry)) limit cursor (now (records .entry)) .buffer ⌝ }
+    ensures { λ r. ⌜ r .«live_count» ≡ paddedTo due (now (rows .entry)) limit cursor (now (records .entry)) .live-count ⌝ }
+    ensures { λ r. ⌜ r .«record_count» ≡ paddedTo due (now (rows .entry)) limit cursor (now (records .entry)) .record-count ⌝ }
+    ensures { λ r. ⌜ r .cursor ≡ paddedTo due (now (rows .entry)) limit cursor (now (records .entry)) .cursor ⌝ }
+    ensures { λ _. ⌜ now (records .exit) ≡ paddedTo due (now (rows .entry)) limit cursor (now (records .entry)) .buffer ⌝ }
 {
     let mut regs = cursor.regs;
     let mut ram = cursor.ram;
     let start = core_of(cursor);
     let stopped = run_live(rows, start, limit, &mut regs, &mut ram, records);
-    let due = due_of(exact, n, stopped.count);
-    pad_rest(stopped, due, &mut regs, &mut ram, records);
+    let count = due_of(due, stopped.count);
+    pad_rest(stopped, count, &mut regs, &mut ram, records);
     let core = stopped.core;
     let after = whole_of(core, regs, ram);
     Execution {
         outcome: Outcome::Accepted,
         live_count: stopped.count as u64,
-        record_count: due as u64,
+        record_count: count as u64,
         cursor: after,
     }
 }

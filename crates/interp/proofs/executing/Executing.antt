@@ -106,13 +106,13 @@ module _ (rows : List ℕ) where
       let w₁ = made-words c max (omega (arith, few, le)) b₁ in
       let w₂ = made-words c more few b₂ in
       record {
-        live = sym same;
-        count = ap nextPowerOfTwo (sym same);
+        live-count = sym same;
+        record-count = ap nextPowerOfTwo (sym same);
         cursor = ap (λ (m : ℕ). end (padding rows) (nextPowerOfTwo m - m) (end (live rows) m c)) (sym same);
         records = w₁ ∙ ap (λ (m : ℕ). flat (recorded (live rows) m c) ++ flat (recorded (padding rows) (nextPowerOfTwo m - m) (end (live rows) m c))) (sym same) ∙ sym w₂;
       }
 
-  executed-cycles : (c : Cursor) (max : ℕ) (b : List ℕ) → executed rows c max b .cursor .cycles ≡ c .cycles + executed rows c max b .live
+  executed-cycles : (c : Cursor) (max : ℕ) (b : List ℕ) → executed rows c max b .cursor .cycles ≡ c .cycles + executed rows c max b .live-count
   unfolding executed
   executed-cycles c max b = padding-cycles (nextPowerOfTwo (liveCount rows max c) - liveCount rows max c) (stoppedAt rows max c) ∙ live-cycles (liveCount rows max c) c
 
@@ -160,7 +160,7 @@ unfolding answered executed
 answered-number zero rows input max b = refl
 answered-number (suc number) rows input max b = refl
 
-answered-cycles : (number : ℕ) (rows input : List ℕ) (max : ℕ) (b : List ℕ) → answered number rows input max b .cursor .cycles ≡ answered number rows input max b .live
+answered-cycles : (number : ℕ) (rows input : List ℕ) (max : ℕ) (b : List ℕ) → answered number rows input max b .cursor .cycles ≡ answered number rows input max b .live-count
 unfolding answered startOf
 answered-cycles zero rows input max b = executed-cycles rows (startOf input) max b ∙ zero-add _
 answered-cycles (suc number) rows input max b = refl
@@ -174,7 +174,7 @@ execute-accepted rows input max b e =
 
 counts : (rows input : List ℕ) (max : ℕ) (b : List ℕ) → executeOf rows input max b .number ≡ 0 → Counts rows input max (executeOf rows input max b)
 unfolding executed
-counts rows input max b e = rw (execute-accepted rows input max b e .0) (record { live = refl; count = refl })
+counts rows input max b e = rw (execute-accepted rows input max b e .0) (record { live-count = refl; record-count = refl })
 
 larger : (rows input : List ℕ) (max more : ℕ) (b₁ b₂ : List ℕ)
     → executeOf rows input max b₁ .number ≡ 0 → executeOf rows input max b₁ .cursor .halted ≡ true
@@ -230,7 +230,7 @@ joined rows input max b e =
     let none = sym (answered-number (lowest (executeRefusals rows max (length b))) rows input max b) ∙ e in
     rw (accepted-is rows input max b (sym none)) (executed-joined rows input max b none)
 
-execute-cycles : (rows input : List ℕ) (max : ℕ) (b : List ℕ) → executeOf rows input max b .cursor .cycles ≡ executeOf rows input max b .live
+execute-cycles : (rows input : List ℕ) (max : ℕ) (b : List ℕ) → executeOf rows input max b .cursor .cycles ≡ executeOf rows input max b .live-count
 unfolding executeOf
 execute-cycles rows input max b = answered-cycles (lowest (executeRefusals rows max (length b))) rows input max b
 

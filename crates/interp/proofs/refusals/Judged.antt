@@ -1,5 +1,5 @@
 -- The tests of the refusals, without a sum or product that could overflow, and what an accepted call has. Assumes nothing.
-use mathlib.Core.Path.{_≡_, refl, sym, _∙_}
+use mathlib.Core.Path.{_≡_, refl, ap, sym, _∙_}
 use mathlib.Core.Bool.{Bool, true, false, not, cond, _&&_, false≢true}
 use mathlib.Core.List.{List, [], _++_}
 use Prim.Native.Nat.{ℕ, _+_, _-_, _*_, _/_, _^_, _≤_, _<_}
@@ -11,9 +11,10 @@ use Rattle.expand.specs.Expand.{Line, lowest, isExpansion}
 use Rattle.interp.specs.declared.Cursor.{Cursor}
 use Rattle.interp.specs.declared.Refusal.{Refusal}
 use Rattle.interp.specs.declared.Refusal.the-variants.{NoRows, TooManyRows, NoExpansion, OutsideRows, TooManyCycles, Short}
+use Rattle.interp.specs.declared.run.Due.the-variants.{Exactly, PowerOfTwo}
 use Rattle.interp.specs.Machine.{startOf, flat}
-use Rattle.interp.specs.Code.{coreOf, Ready, Room, stepOf, callOf}
-use Rattle.interp.specs.Calls.{recorded, end, Call, isSegment, amount, lent, turn, rowLines, callLines, refusals, refusalOf, settled, answerOf, numberOf}
+use Rattle.interp.specs.Code.{coreOf, Ready, Room, stepOf, callOf, firstOf}
+use Rattle.interp.specs.Calls.{recorded, end, Call, isSegment, amount, lent, turn, rowLines, callLines, refusals, refusalOf, settled, answerOf, refusalNumber}
 use Rattle.interp.specs.Execute.{nextPowerOfTwo, lengthLines, executeRefusals, executed, answered, executeOf}
 use Rattle.interp.proofs.run.Powers.{smallest, power-mono}
 
@@ -49,11 +50,10 @@ first-three false true c rest = refl
 first-three false false true rest = refl
 first-three false false false rest = refl
 
-rows-first : (rows : List ℕ) (rest : List Line)
-    → lowest (rowLines rows ++ rest) ≡ cond (eqb (lowest (rowLines rows)) 0) (lowest rest) (lowest (rowLines rows))
+rows-first : (rows : List ℕ) (rest : List Line) → lowest (rowLines rows ++ rest) ≡ firstOf (lowest (rowLines rows)) (lowest rest)
 rows-first rows rest = first-three (eqb (length rows) 0) (ltb 6291456 (length rows)) (not (isExpansion rows)) (lowest rest)
 
-pub refused-not-0 : (why : Refusal) → eqb (numberOf why) 0 ≡ false
+pub refused-not-0 : (why : Refusal) → eqb (refusalNumber why) 0 ≡ false
 refused-not-0 NoRows = refl
 refused-not-0 TooManyRows = refl
 refused-not-0 NoExpansion = refl
@@ -61,12 +61,20 @@ refused-not-0 OutsideRows = refl
 refused-not-0 TooManyCycles = refl
 refused-not-0 Short = refl
 
--- rows that are refused decide
-pub rows-refused : (why : Refusal) (rows : List ℕ) (rest : List Line) → numberOf why ≡ lowest (rowLines rows) → numberOf why ≡ lowest (rowLines rows ++ rest)
-rows-refused why rows rest e = e ∙ sym (rows-first rows rest ∙ rw (sym e, refused-not-0 why) refl)
+-- of two parts of a table the first decides if it refuses, else the other does
+pub first-refused : (why : Refusal) (first rest : ℕ) → refusalNumber why ≡ first → refusalNumber why ≡ firstOf first rest
+first-refused why first rest e = e ∙ sym (rw (sym e, refused-not-0 why) refl)
+
+pub first-passed : (first rest : ℕ) → 0 ≡ first → rest ≡ firstOf first rest
+first-passed first rest e = rw (sym e) refl
+
+-- what `judge` tells is the number of the whole table, where `rest` is judged by the other lines
+pub of-rows : (rows : List ℕ) (rest : List Line) {number judged : ℕ} → judged ≡ lowest rest
+    → number ≡ firstOf (lowest (rowLines rows)) judged → number ≡ lowest (rowLines rows ++ rest)
+of-rows rows rest h e = e ∙ ap (firstOf (lowest (rowLines rows))) h ∙ sym (rows-first rows rest)
 
 -- rows that are not leave it to the other lines
-pub rows-passed : (rows : List ℕ) (rest : List Line) → 0 ≡ lowest (rowLines rows) → lowest rest ≡ lowest (rowLines rows ++ rest)
+rows-passed : (rows : List ℕ) (rest : List Line) → 0 ≡ lowest (rowLines rows) → lowest rest ≡ lowest (rowLines rows ++ rest)
 rows-passed rows rest e = sym (rows-first rows rest ∙ rw (sym e) refl)
 
 -- what rows have in an accepted call: there are some, they meet no line, and no other line is met
@@ -85,35 +93,35 @@ rows-accepted rows rest e =
 -- ---- what an accepted call has
 
 -- only a segment call counts its cycles
-few-of : (live : Bool) (cycles n : ℕ) → (live && ltb (2 ^ 62) (cycles + n)) ≡ false → 0 < cond live n 0 → cycles + cond live n 0 ≤ 2 ^ 62
+few-of : (seg : Bool) (cycles n : ℕ) → (seg && ltb (2 ^ 62) (cycles + n)) ≡ false → 0 < cond seg n 0 → cycles + cond seg n 0 ≤ 2 ^ 62
 few-of true cycles n e p = ltb-false _ _ e
 few-of false cycles n e p = absurd (omega (arith, p))
 
-upto-n : (live : Bool) (n : ℕ) → cond live n 0 ≤ n
+upto-n : (seg : Bool) (n : ℕ) → cond seg n 0 ≤ n
 upto-n true n = omega arith
 upto-n false n = omega arith
 
-pub accepted : (rows : List ℕ) (c : Cursor) (live : Bool) (n room : ℕ) → lowest (refusals rows c live n room) ≡ 0
-    → Ready (length rows) (coreOf c) (cond live n 0) room × Room true n (cond live n 0) room
-accepted rows c live n room e =
-    let p₃ = rows-accepted rows (callLines (length rows) c live n room) e in
+pub accepted : (rows : List ℕ) (c : Cursor) (seg : Bool) (n room : ℕ) → lowest (refusals rows c seg n room) ≡ 0
+    → Ready (length rows) (coreOf c) (cond seg n 0) room × Room (Exactly n) (cond seg n 0) room
+accepted rows c seg n room e =
+    let p₃ = rows-accepted rows (callLines (length rows) c seg n room) e in
     let p₄ = unmet (not (ltb (c .«micro_pc» .0) (length rows) && ltb (c .«next_fetch» .0) (length rows))) 4 _ (omega arith) (p₃ .others) in
-    let p₅ = unmet (live && ltb (2 ^ 62) (c .cycles + n)) 5 _ (omega arith) (p₄ .1) in
+    let p₅ = unmet (seg && ltb (2 ^ 62) (c .cycles + n)) 5 _ (omega arith) (p₄ .1) in
     let p₆ = unmet (ltb room (17 * n)) 6 _ (omega arith) (p₅ .1) in
     let inside = both (ltb (c .«micro_pc» .0) (length rows)) (ltb (c .«next_fetch» .0) (length rows)) (p₄ .0) in
     let fits : 17 * n ≤ room = ltb-false _ _ (p₆ .0) in (
       record {
         pc = ltb-true _ _ (inside .0);
         fetch = ltb-true _ _ (inside .1);
-        few-cycles = few-of live (c .cycles) n (p₅ .0);
-        fits = omega (arith, fits, upto-n live n);
+        few-cycles = few-of seg (c .cycles) n (p₅ .0);
+        fits = omega (arith, fits, upto-n seg n);
       },
-      record { enough = λ count h. omega (arith, h, upto-n live n); fits = λ count h. fits },
+      record { enough = λ count h. omega (arith, h, upto-n seg n); fits = λ count h. fits },
     )
 
 -- an accepted execution begins at row 0
 pub accepted-execution : (rows input : List ℕ) (max room : ℕ) → lowest (executeRefusals rows max room) ≡ 0
-    → Ready (length rows) (coreOf (startOf input)) max room × ((max ≤ 2 ^ 32) × Room false 0 max room)
+    → Ready (length rows) (coreOf (startOf input)) max room × ((max ≤ 2 ^ 32) × Room PowerOfTwo max room)
 unfolding startOf
 accepted-execution rows input max room e =
     let p₃ = rows-accepted rows (lengthLines max room) e in
@@ -133,11 +141,11 @@ accepted-execution rows input max room e =
     )
 
 -- on rows that are accepted, a call at a row of theirs is accepted if it fits
-pub fits-accepted : (rows : List ℕ) (c : Cursor) (live : Bool) (n room : ℕ) → 0 ≡ lowest (rowLines rows)
-    → c .«micro_pc» .0 < length rows → c .«next_fetch» .0 < length rows → cond live (c .cycles + n) 0 ≤ 2 ^ 62 → 17 * n ≤ room
-    → 0 ≡ lowest (refusals rows c live n room)
-fits-accepted rows c live n room none pc fetch few fits =
-    sym (rw (lt-ltb _ _ pc, lt-ltb _ _ fetch, not-long live few, le-ltb room (17 * n) fits) refl) ∙ rows-passed rows (callLines (length rows) c live n room) none
+pub fits-accepted : (rows : List ℕ) (c : Cursor) (seg : Bool) (n room : ℕ) → 0 ≡ lowest (rowLines rows)
+    → c .«micro_pc» .0 < length rows → c .«next_fetch» .0 < length rows → cond seg (c .cycles + n) 0 ≤ 2 ^ 62 → 17 * n ≤ room
+    → 0 ≡ lowest (refusals rows c seg n room)
+fits-accepted rows c seg n room none pc fetch few fits =
+    sym (rw (lt-ltb _ _ pc, lt-ltb _ _ fetch, not-long seg few, le-ltb room (17 * n) fits) refl) ∙ rows-passed rows (callLines (length rows) c seg n room) none
   where
     not-long : (b : Bool) → cond b (c .cycles + n) 0 ≤ 2 ^ 62 → (b && ltb (2 ^ 62) (c .cycles + n)) ≡ false
     not-long true h = le-ltb _ _ h
@@ -146,15 +154,15 @@ fits-accepted rows c live n room none pc fetch few fits =
 -- ---- the answers
 
 -- the number that a call returns is that of the tests
-pub judged : (live : Bool) (rows : List ℕ) (c : Cursor) (n : ℕ) (buffer : List ℕ)
-    → lowest (refusals rows c live n (length buffer)) ≡ refusalOf rows c (callOf live n buffer)
+pub judged : (seg : Bool) (rows : List ℕ) (c : Cursor) (n : ℕ) (buffer : List ℕ)
+    → lowest (refusals rows c seg n (length buffer)) ≡ refusalOf rows c (callOf seg n buffer)
 unfolding refusalOf isSegment amount lent
 judged true rows c n buffer = refl
 judged false rows c n buffer = refl
 
 -- a refusal has a number that is not 0, and the call leaves all as it was
 refused-leaves : (why : Refusal) (rows : List ℕ) (c : Cursor) (k : Call)
-    → settled (numberOf why) rows c k ≡ record { number = numberOf why; cursor = c; buffer = lent k }
+    → settled (refusalNumber why) rows c k ≡ record { number = refusalNumber why; cursor = c; buffer = lent k }
 unfolding settled
 refused-leaves NoRows rows c k = refl
 refused-leaves TooManyRows rows c k = refl
@@ -163,36 +171,36 @@ refused-leaves OutsideRows rows c k = refl
 refused-leaves TooManyCycles rows c k = refl
 refused-leaves Short rows c k = refl
 
-lent-is : (live : Bool) (n : ℕ) (buffer : List ℕ) → lent (callOf live n buffer) ≡ buffer
+lent-is : (seg : Bool) (n : ℕ) (buffer : List ℕ) → lent (callOf seg n buffer) ≡ buffer
 unfolding lent
 lent-is true n buffer = refl
 lent-is false n buffer = refl
 
-pub refused-answer : (why : Refusal) (live : Bool) (rows : List ℕ) (c : Cursor) (n : ℕ) (buffer : List ℕ)
-    → numberOf why ≡ lowest (refusals rows c live n (length buffer))
-    → answerOf rows c (callOf live n buffer) ≡ record { number = numberOf why; cursor = c; buffer = buffer }
+pub refused-answer : (why : Refusal) (seg : Bool) (rows : List ℕ) (c : Cursor) (n : ℕ) (buffer : List ℕ)
+    → refusalNumber why ≡ lowest (refusals rows c seg n (length buffer))
+    → answerOf rows c (callOf seg n buffer) ≡ record { number = refusalNumber why; cursor = c; buffer = buffer }
 unfolding answerOf
-refused-answer why live rows c n buffer e =
-    rw (sym (e ∙ judged live rows c n buffer)) (refused-leaves why rows c (callOf live n buffer) ∙ rw (lent-is live n buffer) refl)
+refused-answer why seg rows c n buffer e =
+    rw (sym (e ∙ judged seg rows c n buffer)) (refused-leaves why rows c (callOf seg n buffer) ∙ rw (lent-is seg n buffer) refl)
 
 -- an accepted call runs its cycles
-ran : (live : Bool) (rows : List ℕ) (c : Cursor) (n : ℕ) (buffer : List ℕ)
-    → settled 0 rows c (callOf live n buffer)
-    ≡ record { number = 0; cursor = end (stepOf live rows) n c; buffer = flat (recorded (stepOf live rows) n c) ++ drop (17 * n) buffer }
+ran : (seg : Bool) (rows : List ℕ) (c : Cursor) (n : ℕ) (buffer : List ℕ)
+    → settled 0 rows c (callOf seg n buffer)
+    ≡ record { number = 0; cursor = end (stepOf seg rows) n c; buffer = flat (recorded (stepOf seg rows) n c) ++ drop (17 * n) buffer }
 unfolding settled turn amount lent
 ran true rows c n buffer = refl
 ran false rows c n buffer = refl
 
-pub accepted-answer : (live : Bool) (rows : List ℕ) (c : Cursor) (n : ℕ) (buffer : List ℕ) → 0 ≡ lowest (refusals rows c live n (length buffer))
-    → answerOf rows c (callOf live n buffer)
-    ≡ record { number = 0; cursor = end (stepOf live rows) n c; buffer = flat (recorded (stepOf live rows) n c) ++ drop (17 * n) buffer }
+pub accepted-answer : (seg : Bool) (rows : List ℕ) (c : Cursor) (n : ℕ) (buffer : List ℕ) → 0 ≡ lowest (refusals rows c seg n (length buffer))
+    → answerOf rows c (callOf seg n buffer)
+    ≡ record { number = 0; cursor = end (stepOf seg rows) n c; buffer = flat (recorded (stepOf seg rows) n c) ++ drop (17 * n) buffer }
 unfolding answerOf
-accepted-answer live rows c n buffer e = rw (sym (e ∙ judged live rows c n buffer)) (ran live rows c n buffer)
+accepted-answer seg rows c n buffer e = rw (sym (e ∙ judged seg rows c n buffer)) (ran seg rows c n buffer)
 
 -- ---- execute
 
 refused-execution-leaves : (why : Refusal) (rows input : List ℕ) (max : ℕ) (buffer : List ℕ)
-    → answered (numberOf why) rows input max buffer ≡ record { number = numberOf why; live = 0; count = 0; cursor = startOf []; buffer = buffer }
+    → answered (refusalNumber why) rows input max buffer ≡ record { number = refusalNumber why; live-count = 0; record-count = 0; cursor = startOf []; buffer = buffer }
 unfolding answered
 refused-execution-leaves NoRows rows input max buffer = refl
 refused-execution-leaves TooManyRows rows input max buffer = refl
@@ -202,8 +210,8 @@ refused-execution-leaves TooManyCycles rows input max buffer = refl
 refused-execution-leaves Short rows input max buffer = refl
 
 pub refused-execution : (why : Refusal) (rows input : List ℕ) (max : ℕ) (buffer : List ℕ)
-    → numberOf why ≡ lowest (executeRefusals rows max (length buffer))
-    → executeOf rows input max buffer ≡ record { number = numberOf why; live = 0; count = 0; cursor = startOf []; buffer = buffer }
+    → refusalNumber why ≡ lowest (executeRefusals rows max (length buffer))
+    → executeOf rows input max buffer ≡ record { number = refusalNumber why; live-count = 0; record-count = 0; cursor = startOf []; buffer = buffer }
 unfolding executeOf
 refused-execution why rows input max buffer e = rw (sym e) (refused-execution-leaves why rows input max buffer)
 

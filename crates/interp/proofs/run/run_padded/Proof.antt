@@ -21,7 +21,7 @@ most c =
     omega (arith, c .run-live .ensures .0, count-most (now (a .rows)) (a .limit) (whole (c .before .before .before .before .core-of .result) (a .cursor .regs) (a .cursor .ram)))
 
 due-of-requires : tie.Need-due-of-requires
-due-of-requires c κs = omega (arith, most (c .before .before), c .before .before .before .before .before .before .before .before .before .before .before .pre .0 .fits, c .before .before .before .before .before .before .before .before .before .before .before .good .1 .1 .1 .1 .1 .0 .1)
+due-of-requires c κs = omega (arith, most (c .before .before), c .before .before .before .before .before .before .before .before .before .before .before .pre .0 .fits, c .before .before .before .before .before .before .before .before .before .before .before .good .1 .1 .1 .1 .0 .1)
 
 pad-rest-requires : tie.Need-pad-rest-requires
 pad-rest-requires c κs =
@@ -39,7 +39,7 @@ returns c =
     let stopped = c .before .before .before .before .before .before .before .before .before .before .before .run-live .result in
     let ran = rw (c .before .before .before .before .before .before .before .before .before .before .before .before .before .before .before .core-of .ensures) at (c .before .before .before .before .before .before .before .before .before .before .before .run-live .ensures) in
     let due = c .before .before .before .before .before .before .before .before .due-of .result in
-    let due-is : due ≡ dueOf (a .exact) (a .n) (liveCount rows (a .limit) (a .cursor)) = c .before .before .before .before .before .before .before .before .due-of .ensures ∙ ap (dueOf (a .exact) (a .n)) (ran .0) in
+    let due-is : due ≡ dueOf (a .due) (liveCount rows (a .limit) (a .cursor)) = c .before .before .before .before .before .before .before .before .due-of .ensures ∙ ap (dueOf (a .due)) (ran .0) in
     let enough : stopped .count ≤ due = omega (arith, c .before .before .before .before .before .before .before .before .due-of .ensures, start .pre .1 .enough _ (most (c .before .before .before .before .before .before .before .before .before .before .before))) in
     let pad = c .before .before .before .before .pad-rest .ensures in (
       refl,
