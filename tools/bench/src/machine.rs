@@ -3,8 +3,8 @@
 use crate::mix::timed;
 use differential::{image_of, pack, Expansion};
 use magnetar_cpu::{padding, segment, start, Cursor, Refusal, RECORD_WORDS};
-use magnetar_source::expand::{expand_program, ExpandedProgram};
-use magnetar_source::interp::{CycleRecord, StreamCursor};
+use magnetar_reference::expand::{expand_program, ExpandedProgram};
+use magnetar_reference::interp::{CycleRecord, StreamCursor};
 use std::hint::black_box;
 use std::time::Duration;
 

@@ -2,7 +2,7 @@
 
 use differential::Expansion;
 use magnetar_cpu::{expand, is_expansion};
-use magnetar_source::expand::expand_program;
+use magnetar_reference::expand::expand_program;
 use std::hint::black_box;
 use std::time::{Duration, Instant};
 

@@ -3,8 +3,8 @@
 
 use crate::programs::row_word;
 use magnetar_cpu::{Cursor, Image, RECORD_WORDS};
-use magnetar_source::expand::{expand_program, ExpandedProgram};
-use magnetar_source::interp::{execute, pad_records, CycleRecord, ExecState, StreamCursor};
+use magnetar_reference::expand::{expand_program, ExpandedProgram};
+use magnetar_reference::interp::{execute, pad_records, CycleRecord, ExecState, StreamCursor};
 use records::pack;
 
 /// The most that cycles and length of a segment may be together.

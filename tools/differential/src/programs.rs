@@ -1,7 +1,7 @@
 //! Programs, and the unchanged Rust's expansions of them as words.
 
-use magnetar_source::decode::{decode, Opcode};
-use magnetar_source::expand::{expand_program, VirtualInst, VirtualKind, SHIFT_STAGES};
+use magnetar_reference::decode::{decode, Opcode};
+use magnetar_reference::expand::{expand_program, VirtualInst, VirtualKind, SHIFT_STAGES};
 use rng::Rng;
 use std::sync::LazyLock;
 

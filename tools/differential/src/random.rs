@@ -5,7 +5,7 @@ use crate::machine::{image_of, MOST_CYCLES, MOST_EXECUTED};
 use crate::programs::{any_word, known_word, live_word, program};
 use crate::{Rng, Rom};
 use magnetar_cpu::{Cursor, Image, RECORD_WORDS};
-use magnetar_source::interp::StreamCursor;
+use magnetar_reference::interp::StreamCursor;
 
 const MOST_WORDS: usize = 30;
 /// The most cycles of a call that a buffer may have room for.

@@ -1,6 +1,6 @@
 //! The unchanged Rust's record of a cycle as the 17 words of the specification.
 
-use magnetar_source::interp::CycleRecord;
+use magnetar_reference::interp::CycleRecord;
 
 /// The 17 words of a record. Inline, because the benchmark times it.
 #[inline]

@@ -1,7 +1,8 @@
-//! The unchanged Rust source of magnetar-cpu, compiled from where it lies.
+//! The reference: the Rust source of magnetar-cpu with the edits of the folder
+//! `edits`.
 //!
-//! `build.rs` finds it and writes `modules.rs`. The source is foreign: lints
-//! are off, because it is not to be edited.
+//! `build.rs` copies and edits it and writes `modules.rs`. The source is foreign:
+//! lints are off, because only answers may be changed in it.
 
 #![allow(warnings)]
 #![allow(clippy::all)]

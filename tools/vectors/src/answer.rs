@@ -1,6 +1,6 @@
 //! What the program `trace` must print, made with the unchanged Rust.
 
-use magnetar_source::interp::execute;
+use magnetar_reference::interp::execute;
 use records::pack;
 
 /// What 01 accepts.

@@ -11,8 +11,8 @@
 
 use crate::calllist::{Call, CallKind, CallList, MOST_INPUT, MOST_ROOM, MOST_ROWS, MOST_WORDS};
 use crate::list::{fed_lines, first_difference, ListKind};
-use magnetar_source::expand::{expand_program, ExpandedProgram};
-use magnetar_source::interp::{pad_records, CycleRecord, StreamCursor};
+use magnetar_reference::expand::{expand_program, ExpandedProgram};
+use magnetar_reference::interp::{pad_records, CycleRecord, StreamCursor};
 use records::pack;
 use std::str;
 

@@ -21,7 +21,7 @@ use crate::asm::ld;
 use crate::callline::answers;
 use crate::calllist::{segment, CallList};
 use crate::words::ECALL;
-use magnetar_source::expand::expand_program;
+use magnetar_reference::expand::expand_program;
 
 /// The boundaries of words and doublewords, and a number without a pattern.
 pub const VALUES: [u64; 8] = [
@@ -39,7 +39,7 @@ pub fn listing() -> String {
     all().iter().map(answers).collect()
 }
 
-fn all() -> Vec<CallList> {
+pub fn all() -> Vec<CallList> {
     let groups = [
         alu::lists(),
         shifts::lists(),

@@ -1,6 +1,6 @@
 //! The listing line: the text of one decoded word, in fixed columns.
 
-use magnetar_source::decode::decode;
+use magnetar_reference::decode::decode;
 use std::fmt;
 use std::ops::Range;
 

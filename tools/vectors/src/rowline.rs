@@ -3,7 +3,7 @@
 
 use crate::list::{is_compared, lines, ListKind};
 use crate::listing::{raw_word, CLASS, FUNCT7, RAW, WIDTH};
-use magnetar_source::expand::{expand_program, RomRow, VirtualKind};
+use magnetar_reference::expand::{expand_program, RomRow, VirtualKind};
 use std::ops::Range;
 
 /// In the program line: the numbers of words and of rows.

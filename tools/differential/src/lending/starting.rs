@@ -4,7 +4,7 @@ use super::{image_mut, Lend};
 use crate::machine::image_of;
 use crate::{Lent, Rng};
 use magnetar_cpu::{words, Cursor, Image};
-use magnetar_source::interp::StreamCursor;
+use magnetar_reference::interp::StreamCursor;
 
 #[derive(Clone)]
 pub struct Starting {

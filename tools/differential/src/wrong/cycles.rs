@@ -5,8 +5,8 @@ use crate::lending::image_mut;
 use crate::machine::{cursor_of, image_of, run_source};
 use crate::{pack, Call, Running, STAGES};
 use magnetar_cpu::RECORD_WORDS;
-use magnetar_source::expand::{ExpandedProgram, RomRow, VirtualKind};
-use magnetar_source::interp::{CycleRecord, StreamCursor};
+use magnetar_reference::expand::{ExpandedProgram, RomRow, VirtualKind};
+use magnetar_reference::interp::{CycleRecord, StreamCursor};
 
 /// Where instructions with destination 0 write.
 const SPARE: usize = 32;

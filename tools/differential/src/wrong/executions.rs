@@ -5,7 +5,7 @@ use crate::lending::image_mut;
 use crate::machine::{execute_source, image_of, run_source, MOST_EXECUTED};
 use crate::{Call, Executing, Lend, Lent, GUARDS};
 use magnetar_cpu::{Cursor, RECORD_WORDS};
-use magnetar_source::interp::StreamCursor;
+use magnetar_reference::interp::StreamCursor;
 
 pub const WRONG: [Variant<OfExecute>; 21] = [
     ("a limit of 2^32 is refused", |before, _, answer| {

@@ -2,7 +2,7 @@
 
 use differential::{pack, Rng};
 use magnetar_cpu::Record;
-use magnetar_source::interp::CycleRecord;
+use magnetar_reference::interp::CycleRecord;
 
 fn random_record(rng: &mut Rng) -> CycleRecord {
     let mut flag = || rng.below(2) == 1;

@@ -3,7 +3,7 @@
 use super::told::{answers, cycles, Cycle};
 use super::VALUES;
 use crate::forms::{Format, FORMS};
-use magnetar_source::expand::{RomRow, VirtualKind};
+use magnetar_reference::expand::{RomRow, VirtualKind};
 use std::collections::HashSet;
 
 #[test]

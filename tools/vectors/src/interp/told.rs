@@ -5,7 +5,7 @@ use crate::callline::{numbers, CALLS};
 use crate::calllist::Call;
 use crate::calllist::CallKind::{self, Padding, Segment};
 use crate::list::fed_lines;
-use magnetar_source::expand::{expand_program, RomRow, VirtualKind};
+use magnetar_reference::expand::{expand_program, RomRow, VirtualKind};
 use std::collections::HashSet;
 use std::hash::Hash;
 use std::sync::LazyLock;

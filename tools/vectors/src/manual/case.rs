@@ -2,8 +2,8 @@
 //! unchanged Rust makes of it.
 
 use crate::callline::{line, numbers};
-use magnetar_source::expand::expand_program;
-use magnetar_source::interp::{CycleRecord, StreamCursor};
+use magnetar_reference::expand::expand_program;
+use magnetar_reference::interp::{CycleRecord, StreamCursor};
 use std::ops::Range;
 
 /// Registers of the manual's machine, x0 among them.

@@ -22,7 +22,7 @@
 use super::case::{Case, State};
 use crate::callline::{all_numbers, changes, is_digit_for_digit, line};
 use crate::list::{fed_lines, first_difference, ListKind};
-use magnetar_source::interp::StreamCursor;
+use magnetar_reference::interp::StreamCursor;
 
 /// The lists of cases about the manual.
 pub const MANUAL: ListKind = ListKind {

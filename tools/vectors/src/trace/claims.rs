@@ -5,7 +5,7 @@ use crate::answer::{answer, Run, MOST_BYTES, MOST_CYCLES};
 use crate::forms::{Form, FORMS};
 use crate::formwords::operands;
 use crate::traceline::TRACES;
-use magnetar_source::interp::execute;
+use magnetar_reference::interp::execute;
 use rng::Rng;
 use std::collections::HashSet;
 use std::sync::LazyLock;

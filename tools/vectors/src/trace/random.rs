@@ -8,7 +8,7 @@ use crate::interp::{loads, system::HALTING};
 use crate::mixed::{self, program_and_input};
 use crate::programs::random_word;
 use crate::words::ECALL;
-use magnetar_source::expand::{expand_program, VirtualKind};
+use magnetar_reference::expand::{expand_program, VirtualKind};
 use rng::Rng;
 use std::sync::LazyLock;
 
