@@ -31,6 +31,8 @@ mod tool;
 mod trace;
 mod tracedamage;
 mod traceline;
+#[cfg(test)]
+mod unedited;
 mod words;
 mod wordset;
 

@@ -39,7 +39,7 @@ pub fn listing() -> String {
     all().iter().map(|program| expansion(program)).collect()
 }
 
-fn all() -> Vec<Vec<u32>> {
+pub fn all() -> Vec<Vec<u32>> {
     let mut programs = shift_positions();
     programs.extend(in_programs_of(32, stray_funct7()));
     programs.extend(in_programs_of(12, lookalikes()));
