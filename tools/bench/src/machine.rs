@@ -1,4 +1,4 @@
-//! One loop run in segments, timed in the Rust and in the library.
+//! One loop run in segments, timed in the reference and in the library.
 
 use crate::mix::timed;
 use differential::{image_of, pack, Expansion};
@@ -11,7 +11,7 @@ use std::time::Duration;
 /// The cycles that a round times in a row: several segments of each length, of
 /// which the first finds its memory displaced by others.
 const CYCLES_A_ROUND: usize = 1 << 18;
-/// The segments that are compared first. After them the Rust's allocator keeps
+/// The segments that are compared first. After them the reference's allocator keeps
 /// what it frees, and later segments get the same memory again.
 const COMPARED: usize = 3;
 
@@ -100,21 +100,21 @@ pub const LOOPS: [Loop; 6] = [
 /// addi x10,x0,5, and ecall.
 const HALTING: [u32; 2] = [0x0050_0513, 0x0000_0073];
 
-/// What runs a segment: the Rust, the Rust with its records packed into words,
-/// or the library.
+/// What runs a segment: the reference, the reference with its records packed into
+/// words, or the library.
 #[derive(Clone, Copy, Debug, PartialEq)]
 pub enum Side {
-    Source,
+    Reference,
     Packed,
     Library,
 }
 
 impl Side {
-    const ALL: [Side; 3] = [Side::Source, Side::Packed, Side::Library];
+    const ALL: [Side; 3] = [Side::Reference, Side::Packed, Side::Library];
 
     pub fn named(name: &str) -> Option<Side> {
         match name {
-            "rust" => Some(Side::Source),
+            "rust" => Some(Side::Reference),
             "packed" => Some(Side::Packed),
             "library" => Some(Side::Library),
             _ => None,
@@ -122,7 +122,7 @@ impl Side {
     }
 }
 
-/// A loop, a cursor of the Rust and one of the library, their buffers, and the
+/// A loop, a cursor of the reference and one of the library, their buffers, and the
 /// best times of a segment so far.
 pub struct Machine {
     pub name: &'static str,
@@ -131,7 +131,7 @@ pub struct Machine {
     rows: Vec<u64>,
     program: ExpandedProgram,
     cursor: Cursor,
-    source_cursor: StreamCursor,
+    reference_cursor: StreamCursor,
     records: Vec<u64>,
     packed_records: Vec<u64>,
     best: [Duration; 3],
@@ -142,7 +142,7 @@ impl Machine {
         Machine::of_program(of, of.program, cycles)
     }
 
-    /// Runs another program by the loop's call. An error if Rust and library do
+    /// Runs another program by the loop's call. An error if reference and library do
     /// not agree on the first segments.
     pub fn of_program(of: &Loop, program: &[u32], cycles: usize) -> Result<Machine, String> {
         let input: Vec<u64> = (0..256).map(|word| word << 32 | word).collect();
@@ -153,7 +153,7 @@ impl Machine {
             rows: Expansion::of(program).rows,
             program: expand_program(program),
             cursor: start(&input),
-            source_cursor: StreamCursor::start(&input),
+            reference_cursor: StreamCursor::start(&input),
             records: vec![0; cycles * RECORD_WORDS],
             packed_records: vec![0; cycles * RECORD_WORDS],
             best: [Duration::MAX; 3],
@@ -164,7 +164,7 @@ impl Machine {
         for _ in 0..COMPARED {
             machine.run_packed();
             let answer = machine.run_library();
-            let is_same = *machine.cursor.image() == image_of(&machine.source_cursor);
+            let is_same = *machine.cursor.image() == image_of(&machine.reference_cursor);
             if answer.is_err() || !is_same || machine.records != machine.packed_records {
                 return Err(format!("{}: the library's call is wrong", of.name));
             }
@@ -175,7 +175,7 @@ impl Machine {
     /// Runs both machines until they halt, so that only padding is timed.
     fn halt(&mut self) -> Result<(), Refusal> {
         let cycles = HALTING.len();
-        self.source_cursor.run_segment(&self.program, cycles);
+        self.reference_cursor.run_segment(&self.program, cycles);
         segment(
             &self.rows,
             &mut self.cursor,
@@ -184,14 +184,14 @@ impl Machine {
         )
     }
 
-    fn run_source(&mut self) -> Vec<CycleRecord> {
+    fn run_reference(&mut self) -> Vec<CycleRecord> {
         let program = black_box(&self.program);
-        self.source_cursor.run_segment(program, self.cycles)
+        self.reference_cursor.run_segment(program, self.cycles)
     }
 
     /// Gives the records too, so that the caller drops them untimed.
     fn run_packed(&mut self) -> Vec<CycleRecord> {
-        let records = self.run_source();
+        let records = self.run_reference();
         let places = self.packed_records.chunks_exact_mut(RECORD_WORDS);
         for (record, place) in records.iter().zip(places) {
             place.copy_from_slice(&pack(record));
@@ -207,7 +207,7 @@ impl Machine {
     /// Runs a segment and drops what it gives.
     pub fn run(&mut self, side: Side) {
         match side {
-            Side::Source => drop(black_box(self.run_source())),
+            Side::Reference => drop(black_box(self.run_reference())),
             Side::Packed => drop(black_box(self.run_packed())),
             Side::Library => drop(black_box(self.run_library())),
         }
@@ -236,7 +236,7 @@ impl Machine {
 
     fn time(&mut self, side: Side) {
         let time = match side {
-            Side::Source => timed(|| self.run_source()).0,
+            Side::Reference => timed(|| self.run_reference()).0,
             Side::Packed => timed(|| self.run_packed()).0,
             Side::Library => timed(|| self.run_library()).0,
         };
@@ -248,7 +248,8 @@ impl Machine {
         self.rows.len()
     }
 
-    /// The speed of the Rust, of the Rust with packed records, and of the library.
+    /// The speed of the reference, of the reference with packed records, and of the
+    /// library.
     pub fn records_per_microsecond(&self) -> [f64; 3] {
         let speed = |time: Duration| self.cycles as f64 / time.as_secs_f64() / 1e6;
         self.best.map(speed)
@@ -293,7 +294,7 @@ mod tests {
     fn loops_run_all_their_rows() {
         for of in &LOOPS {
             let mut machine = Machine::new(of, 1000).expect("answers that agree");
-            let records = machine.run_source();
+            let records = machine.run_reference();
             let visited: HashSet<usize> = records.iter().map(|record| record.micro_pc).collect();
             let is_halting = of.program == HALTING;
             let rows = if is_halting { 1 } else { machine.rows.len() };

@@ -1,4 +1,5 @@
-//! Times the static library beside the unchanged Rust, in one run.
+//! Times the static library beside the reference, in one run. The tables call the
+//! reference Rust.
 
 mod machine;
 mod mix;

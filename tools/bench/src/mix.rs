@@ -1,4 +1,4 @@
-//! One program, timed in the Rust and in the library.
+//! One program, timed in the reference and in the library.
 
 use differential::Expansion;
 use magnetar_cpu::{expand, is_expansion};
@@ -14,14 +14,14 @@ pub struct Mix {
     program: Vec<u32>,
     rows: Vec<u64>,
     starts: Vec<u64>,
-    source: Duration,
+    reference: Duration,
     library: Duration,
     first_test: Duration,
     later_test: Duration,
 }
 
 impl Mix {
-    /// An error if Rust and library do not agree on the program. The buffers
+    /// An error if reference and library do not agree on the program. The buffers
     /// are exactly full afterwards, so all of their pages have been touched.
     pub fn new(name: &'static str, program: Vec<u32>) -> Result<Mix, String> {
         let expansion = Expansion::of(&program);
@@ -30,7 +30,7 @@ impl Mix {
             rows: vec![0; expansion.rows.len()],
             starts: vec![0; expansion.starts.len()],
             program,
-            source: Duration::MAX,
+            reference: Duration::MAX,
             library: Duration::MAX,
             first_test: Duration::MAX,
             later_test: Duration::MAX,
@@ -46,11 +46,11 @@ impl Mix {
         Ok(mix)
     }
 
-    /// Times each expansion once. The test is repeated, because a call after
-    /// the Rust finds the processor cold, and there is no Rust to compare with.
+    /// Times each expansion once. The test is repeated, because a call after the
+    /// reference's finds the processor cold, and the reference has no such test.
     pub fn round(&mut self) {
         let (time, expanded) = timed(|| expand_program(black_box(&self.program)));
-        self.source = self.source.min(time);
+        self.reference = self.reference.min(time);
         drop(expanded);
         let program = black_box(&self.program);
         let (time, _) = timed(|| expand(program, &mut self.rows, &mut self.starts));
@@ -66,10 +66,10 @@ impl Mix {
         self.rows.len()
     }
 
-    /// The speed of the Rust's expansion and of the library's.
+    /// The speed of the reference's expansion and of the library's.
     pub fn words_per_microsecond(&self) -> (f64, f64) {
         let speed = |time: Duration| self.program.len() as f64 / time.as_secs_f64() / 1e6;
-        (speed(self.source), speed(self.library))
+        (speed(self.reference), speed(self.library))
     }
 
     /// The speed of the first test of a round and of those repeated.

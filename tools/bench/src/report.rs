@@ -14,10 +14,10 @@ pub fn print_expansion(mixes: &[Mix], missed: &mut Vec<Missed>) {
     println!("                          Rust  library  ratio");
     for mix in mixes {
         let name = mix.name;
-        let (source, library) = mix.words_per_microsecond();
-        let ratio = library / source;
+        let (reference, library) = mix.words_per_microsecond();
+        let ratio = library / reference;
         let state = state(&format!("expansion, {name}"), ratio, &RATIO, missed);
-        println!("{name:<22}{source:>8.1}{library:>9.1}{ratio:>7.2}  {state}");
+        println!("{name:<22}{reference:>8.1}{library:>9.1}{ratio:>7.2}  {state}");
     }
 }
 
@@ -51,14 +51,14 @@ pub fn print_machines(machines: &[Machine], missed: &mut Vec<Missed>) {
     println!("{MACHINES_HEAD}");
     for machine in machines {
         let (name, cycles) = (machine.name, machine.cycles);
-        let (speeds, [to_source, to_packed]) = speeds_and_ratios(machine);
+        let (speeds, [to_reference, to_packed]) = speeds_and_ratios(machine);
         let name_of = |what: &str| format!("{name}, {cycles} cycles{what}");
         let states = [
-            state(&name_of(""), to_source, &RUN, missed),
+            state(&name_of(""), to_reference, &RUN, missed),
             state(&name_of(", packed"), to_packed, &PACKED, missed),
         ];
         println!(
-            "{speeds}{to_source:>7.2} {:<6}{to_packed:>5.2} {}",
+            "{speeds}{to_reference:>7.2} {:<6}{to_packed:>5.2} {}",
             states[0], states[1]
         );
     }
@@ -69,8 +69,8 @@ pub fn print_cold(machines: &[Machine], others: usize) {
     println!("written before each; no target");
     println!("{MACHINES_HEAD}");
     for machine in machines {
-        let (speeds, [to_source, to_packed]) = speeds_and_ratios(machine);
-        println!("{speeds}{to_source:>7.2}{to_packed:>12.2}");
+        let (speeds, [to_reference, to_packed]) = speeds_and_ratios(machine);
+        println!("{speeds}{to_reference:>7.2}{to_packed:>12.2}");
     }
 }
 
@@ -80,8 +80,8 @@ pub fn print_short(shorts: &[Short]) {
     println!("                rows  cycles    Rust  library");
     for short in shorts {
         let (rows, cycles) = (short.rows(), short.cycles());
-        let (source, library) = short.nanoseconds();
-        println!("{rows:>20}{cycles:>8}{source:>8}{library:>9}");
+        let (reference, library) = short.nanoseconds();
+        println!("{rows:>20}{cycles:>8}{reference:>8}{library:>9}");
     }
     let row = nanoseconds_per_row(shorts);
     println!("for each row of its ROM a call of the library takes {row:.2} ns");
@@ -91,10 +91,10 @@ const MACHINES_HEAD: &str =
     "                        cycles    Rust  packed  library  ratio   to packed";
 
 /// The first columns of a machine's line, and the library's speed over that of the
-/// Rust and over that with packed records.
+/// reference and over that with packed records.
 fn speeds_and_ratios(machine: &Machine) -> (String, [f64; 2]) {
     let (name, cycles) = (machine.name, machine.cycles);
-    let [source, packed, library] = machine.records_per_microsecond();
-    let speeds = format!("{name:<22}{cycles:>8}{source:>8.1}{packed:>8.1}{library:>9.1}");
-    (speeds, [library / source, library / packed])
+    let [reference, packed, library] = machine.records_per_microsecond();
+    let speeds = format!("{name:<22}{cycles:>8}{reference:>8.1}{packed:>8.1}{library:>9.1}");
+    (speeds, [library / reference, library / packed])
 }

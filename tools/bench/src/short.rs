@@ -1,4 +1,4 @@
-//! Calls that run few cycles or none, timed in the Rust and in the library.
+//! Calls that run few cycles or none, timed in the reference and in the library.
 
 use crate::machine::{Machine, Side, ALU};
 use crate::mix::timed;
@@ -9,14 +9,14 @@ const LENGTHS: [usize; 3] = [0, 1, 64];
 /// The rows of a small and of a large ROM, and how many of the library's calls are
 /// timed together: one on few rows is too short for the clock.
 const ROMS: [(usize, u32); 2] = [(ALU.program.len(), 1000), (1_000_000, 4)];
-/// How many of the Rust's calls are timed together.
-const SOURCE_CALLS: u32 = 1000;
+/// How many of the reference's calls are timed together.
+const REFERENCE_CALLS: u32 = 1000;
 
 /// A ROM, a length, and the best times of a call so far.
 pub struct Short {
     machine: Machine,
     library_calls: u32,
-    source: Duration,
+    reference: Duration,
     library: Duration,
 }
 
@@ -34,14 +34,14 @@ impl Short {
         Ok(Short {
             machine: Machine::of_program(&ALU, &program, cycles)?,
             library_calls,
-            source: Duration::MAX,
+            reference: Duration::MAX,
             library: Duration::MAX,
         })
     }
 
     pub fn round(&mut self) {
-        let source = self.time(Side::Source, SOURCE_CALLS);
-        self.source = self.source.min(source);
+        let reference = self.time(Side::Reference, REFERENCE_CALLS);
+        self.reference = self.reference.min(reference);
         let library = self.time(Side::Library, self.library_calls);
         self.library = self.library.min(library);
     }
@@ -60,9 +60,9 @@ impl Short {
         self.machine.cycles
     }
 
-    /// The time of a call of the Rust and of the library, in nanoseconds.
+    /// The time of a call of the reference and of the library, in nanoseconds.
     pub fn nanoseconds(&self) -> (u128, u128) {
-        (self.source.as_nanos(), self.library.as_nanos())
+        (self.reference.as_nanos(), self.library.as_nanos())
     }
 }
 
@@ -90,7 +90,7 @@ mod tests {
             let mut short = short(rows, 64, 0);
             assert_eq!((short.rows(), short.cycles()), (rows, 64));
             short.round();
-            assert!(short.source < Duration::MAX);
+            assert!(short.reference < Duration::MAX);
         }
     }
 

@@ -6,7 +6,7 @@ pub struct Target {
     is_ratio: bool,
 }
 
-/// The library's speed over that of the Rust, for every mix.
+/// The library's speed over that of the reference, for every mix.
 pub const RATIO: Target = Target {
     least: 2.0,
     is_ratio: true,
@@ -17,12 +17,12 @@ pub const ROWS: Target = Target {
     is_ratio: false,
 };
 
-/// The library's speed over that of the Rust, for every loop.
+/// The library's speed over that of the reference, for every loop.
 pub const RUN: Target = Target {
     least: 1.0,
     is_ratio: true,
 };
-/// The same, where the Rust's records are packed into words too.
+/// The same, where the reference's records are packed into words too.
 pub const PACKED: Target = Target {
     least: 2.0,
     is_ratio: true,

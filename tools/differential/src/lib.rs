@@ -1,4 +1,4 @@
-//! The static library beside a model of it: the unchanged Rust and the table of
+//! The static library beside a model of it: the reference and the table of
 //! refusals. Calls with all that is lent to them, random rounds of such calls,
 //! and wrong variants that the rounds must tell from the model.
 

@@ -1,5 +1,5 @@
-//! The calls that run a machine, by the table of refusals and the unchanged
-//! Rust, and the sameness of cursors, which only the specification has.
+//! The calls that run a machine, by the table of refusals and the reference,
+//! and the sameness of cursors, which only the specification has.
 
 use crate::programs::row_word;
 use magnetar_cpu::{Cursor, Image, RECORD_WORDS};
@@ -19,7 +19,7 @@ pub enum Call {
     Padding,
 }
 
-/// Rows, and what the unchanged Rust runs in their place if they are an
+/// Rows, and what the reference runs in their place if they are an
 /// expansion.
 pub struct Rom {
     pub rows: Vec<u64>,
@@ -104,9 +104,9 @@ pub fn is_same(a: &Image, b: &Image) -> bool {
         && Cursor::RAM.into_iter().all(agrees)
 }
 
-/// An accepted execution by the unchanged Rust: its records and its last cursor.
+/// An accepted execution by the reference: its records and its last cursor.
 /// Only live cycles count in the cursor's cycles.
-pub fn execute_source(
+pub fn execute_reference(
     rows: &[u64],
     input: &[u64],
     max_cycles: usize,
@@ -120,8 +120,8 @@ pub fn execute_source(
     (trace.records, cursor)
 }
 
-/// An accepted call by the unchanged Rust.
-pub fn run_source(
+/// An accepted call by the reference.
+pub fn run_reference(
     call: Call,
     program: &ExpandedProgram,
     cursor: &mut StreamCursor,
@@ -141,7 +141,7 @@ pub fn run_source(
     }
 }
 
-/// The source's cursor of an image whose rows are inside.
+/// The reference's cursor of an image whose rows are inside.
 pub fn cursor_of(image: &Image) -> StreamCursor {
     let count = |place: usize| usize::try_from(image[place]).expect("a usize of 64 bits");
     StreamCursor {

@@ -1,4 +1,4 @@
-//! Programs, and the unchanged Rust's expansions of them as words.
+//! Programs, and the reference's expansions of them as words.
 
 use magnetar_reference::decode::{decode, Opcode};
 use magnetar_reference::expand::{expand_program, VirtualInst, VirtualKind, SHIFT_STAGES};
@@ -6,7 +6,7 @@ use rng::Rng;
 use std::sync::LazyLock;
 
 const OPCODE_BITS: u32 = 0x7f;
-/// The opcode numbers that the source gives a class.
+/// The opcode numbers that the reference gives a class.
 static OPCODES: LazyLock<Vec<u32>> = LazyLock::new(|| {
     let known = |&number: &u32| decode(number).opcode != Opcode::Invalid;
     (0..=OPCODE_BITS).filter(known).collect()
@@ -28,7 +28,7 @@ pub const ECALL: u32 = 0x0000_0073;
 /// The most rows that a word becomes.
 pub const STAGES: usize = SHIFT_STAGES;
 
-/// The expansion of a program by the unchanged Rust, as words.
+/// The expansion of a program by the reference, as words.
 pub struct Expansion {
     pub rows: Vec<u64>,
     pub starts: Vec<u64>,

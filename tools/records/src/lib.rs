@@ -1,4 +1,4 @@
-//! The unchanged Rust's record of a cycle as the 17 words of the specification.
+//! The reference's record of a cycle as the 17 words of the specification.
 
 use magnetar_reference::interp::CycleRecord;
 

@@ -1,4 +1,4 @@
-//! What the program `trace` must print, made with the unchanged Rust.
+//! What the program `trace` must print, made with the reference.
 
 use magnetar_reference::interp::execute;
 use records::pack;
@@ -19,7 +19,7 @@ pub struct Run {
     pub program: Vec<u32>,
 }
 
-/// The text for these bytes on standard input. The unchanged Rust takes no empty
+/// The text for these bytes on standard input. The reference takes no empty
 /// program, so that is refused before it is called.
 pub fn answer(bytes: &[u8]) -> Vec<u8> {
     let text = match Run::read(bytes) {

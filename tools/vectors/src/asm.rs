@@ -1,5 +1,5 @@
 //! Words by opcode, funct3 and operands. The manual does not define all of
-//! them; the source takes any funct3 and funct7.
+//! them; the reference takes any funct3 and funct7.
 
 use crate::encode::{b, i, j, rd, rs1, rs2, s, u};
 

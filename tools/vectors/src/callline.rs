@@ -27,7 +27,7 @@ pub const CALLS: ListKind = ListKind {
 };
 
 /// The lines of a list of calls, each with its line feed: the answers of the
-/// unchanged Rust.
+/// reference.
 pub fn answers(list: &CallList) -> String {
     let program = expand_program(&list.program);
     let mut cursor = StreamCursor::start(&list.input);
@@ -66,7 +66,7 @@ fn run(call: &Call, program: &ExpandedProgram, cursor: &mut StreamCursor) -> Vec
     match call.kind {
         CallKind::Segment => cursor.run_segment(program, length),
         CallKind::Padding => {
-            // The source goes on from the last record of a list, so it is given one.
+            // The reference goes on from the last record of a list, so it is given one.
             let mut records = vec![CycleRecord {
                 next_pc: cursor.next_fetch,
                 ..Default::default()
@@ -116,7 +116,7 @@ fn first_wrong(part: &[u8]) -> Option<usize> {
     first_difference(&kept, &answers(&list))
 }
 
-/// What the lines ask the unchanged Rust for. The error is a line without which
+/// What the lines ask the reference for. The error is a line without which
 /// nothing can be asked. At a wrong line of a call the reading ends: then the
 /// answers end before that line, which the comparison notices.
 fn read(lines: &[&[u8]]) -> Result<CallList, usize> {

@@ -1,5 +1,4 @@
-//! The fixed set of lists of calls whose answers by the unchanged Rust are
-//! listed.
+//! The fixed set of lists of calls whose answers by the reference are listed.
 
 mod alu;
 pub mod bounds;

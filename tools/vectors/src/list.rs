@@ -13,7 +13,7 @@ pub struct ListKind {
     pub width: Option<usize>,
     /// Whether a part begins with this line.
     pub begins: fn(&[u8]) -> bool,
-    /// The first line of a part that is not what the unchanged Rust answers,
+    /// The first line of a part that is not what the reference answers,
     /// counted from zero.
     pub first_wrong: fn(&[u8]) -> Option<usize>,
     /// Whether it is tried to make the character in this column of a line,
@@ -39,7 +39,7 @@ pub fn is_compared(line: &[u8], column: usize, to: u8) -> bool {
 }
 
 impl ListKind {
-    /// The bytes of a good list: whole lines, all right by the unchanged Rust.
+    /// The bytes of a good list: whole lines, all right by the reference.
     pub fn read(&self, path: &Path) -> Result<Vec<u8>, String> {
         let bytes = fs::read(path).map_err(|error| format!("{}: {error}", path.display()))?;
         self.check(&bytes)
@@ -98,9 +98,7 @@ impl ListKind {
         }
         match self.wrong_lines(bytes).first() {
             None => Ok(()),
-            Some(number) => Err(format!(
-                "line {number} is not what the unchanged Rust answers"
-            )),
+            Some(number) => Err(format!("line {number} is not what the reference answers")),
         }
     }
 }
@@ -134,7 +132,7 @@ mod tests {
     use crate::rowline::{expansion, PROGRAMS};
 
     fn good() -> String {
-        join([Line::of_source(0x13), Line::of_source(0x73)])
+        join([Line::of_reference(0x13), Line::of_reference(0x73)])
     }
 
     /// Programs of 1 and 2 rows: lines 1 to 2 and 3 to 5.

@@ -34,8 +34,8 @@ pub struct Line {
 }
 
 impl Line {
-    /// The answer of the unchanged Rust.
-    pub fn of_source(raw: u32) -> Self {
+    /// The answer of the reference.
+    pub fn of_reference(raw: u32) -> Self {
         let inst = decode(raw);
         Line {
             raw: inst.raw,
@@ -74,13 +74,13 @@ pub fn join(lines: impl IntoIterator<Item = Line>) -> String {
     lines.into_iter().map(|line| format!("{line}\n")).collect()
 }
 
-/// Whether a stored line (without its line feed) is what the unchanged Rust
+/// Whether a stored line (without its line feed) is what the reference
 /// answers for the word it names, in all columns that are compared.
 pub fn holds(stored: &[u8]) -> bool {
     let Some(raw) = stored.get(RAW).and_then(raw_word) else {
         return false;
     };
-    let answer = Line::of_source(raw).to_string();
+    let answer = Line::of_reference(raw).to_string();
     stored.len() == answer.len()
         && stored
             .iter()
@@ -105,7 +105,7 @@ mod tests {
 
     #[test]
     fn the_example_line() {
-        let line = Line::of_source(0x0050_0513).to_string();
+        let line = Line::of_reference(0x0050_0513).to_string();
         assert_eq!(line, ADDI);
         assert_eq!(line.len(), WIDTH);
         assert_eq!(&line[CLASS], "OpImm  ");
@@ -115,7 +115,7 @@ mod tests {
 
     #[test]
     fn widest_columns_keep_the_width() {
-        let line = Line::of_source(0xffff_ff9b).to_string();
+        let line = Line::of_reference(0xffff_ff9b).to_string();
         assert_eq!(line, "ffffff9b OpImm32 31 31 31 7 7f ffffffffffffffff");
     }
 
@@ -128,7 +128,7 @@ mod tests {
             funct3: None,
             funct7: None,
             imm: None,
-            ..Line::of_source(0x13)
+            ..Line::of_reference(0x13)
         };
         let text = line.to_string();
         assert_eq!(text, "00000013 OpImm   .. .. .. . .. ................");
@@ -147,7 +147,7 @@ mod tests {
 
     #[test]
     fn raw_digits_are_lower_case() {
-        let line = Line::of_source(0x0000_000f).to_string();
+        let line = Line::of_reference(0x0000_000f).to_string();
         assert!(holds(line.as_bytes()));
         assert!(!holds(line.replacen('f', "F", 1).as_bytes()));
         assert!(!holds(line.replacen('f', "g", 1).as_bytes()));

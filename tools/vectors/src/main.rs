@@ -49,21 +49,21 @@ use std::str::FromStr;
 use traceline::TRACES;
 
 const USAGE: &str = "\
-usage: vectors decode                            list the unchanged Rust's answers
+usage: vectors decode                            list the reference's answers
        vectors objdump                           list objdump's answers
        vectors damage FILE                       write a short, damaged list from FILE
        vectors mutate PROGRAM FILE COUNT         test that PROGRAM notices changes of FILE
-       vectors expand                            list the unchanged Rust's expansions
+       vectors expand                            list the reference's expansions
        vectors damage-rows FILE                  as damage, for a list of expansions
        vectors mutate-rows PROGRAM FILE COUNT    as mutate, for a list of expansions
-       vectors interp                            list the unchanged Rust's records and cursors
+       vectors interp                            list the reference's records and cursors
        vectors damage-calls FILE                 as damage, for lists of calls
        vectors mutate-calls PROGRAM FILE COUNT   as mutate, for lists of calls
        vectors trace                             list what the program trace must print
        vectors damage-trace FILE                 as damage, for a list of traces
        vectors mutate-trace PROGRAM FILE COUNT   as mutate, for a list of traces
        vectors qemu                              list qemu's results of single instructions
-       vectors differences                       list where source and manual part
+       vectors differences                       list where reference and manual part
        vectors damage-manual QEMU DIFFERENCES    as damage, from these two lists
        vectors mutate-manual PROGRAM FILE COUNT  as mutate, for one of them
        vectors answer-trace                      print what trace must print for standard input

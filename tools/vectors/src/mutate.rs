@@ -179,7 +179,7 @@ mod tests {
         ]
     }
 
-    /// A replay that compares with the unchanged Rust.
+    /// A replay that compares with the reference.
     fn replay(kind: &ListKind, bytes: &[u8]) -> Result<String, String> {
         let complaint = |line| format!("list line {line}: differs\n");
         Ok(kind.wrong_lines(bytes).into_iter().map(complaint).collect())

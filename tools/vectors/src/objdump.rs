@@ -159,10 +159,10 @@ mod tests {
         assert!(message.contains("another word"));
     }
 
-    /// objdump and the unchanged Rust agree wherever a column is compared.
+    /// objdump and the reference agree wherever a column is compared.
     #[test]
-    fn agrees_with_the_source() {
-        let Some(list) = unless_absent("agrees_with_the_source", listing()) else {
+    fn agrees_with_the_reference() {
+        let Some(list) = unless_absent("agrees_with_the_reference", listing()) else {
             return;
         };
         let differing: Vec<&str> = list

@@ -82,7 +82,7 @@ fn offset_and_base(text: &str) -> Option<(Option<i64>, Option<u32>)> {
 }
 
 /// The immediate of lui and auipc. Where bit 31 is set, the manual extends the
-/// sign and the source does not, so that immediate is not compared. The outer
+/// sign and the reference does not, so that immediate is not compared. The outer
 /// `None` is a value that does not fit the field.
 fn upper_immediate(upper: i64) -> Option<Option<i64>> {
     match upper {

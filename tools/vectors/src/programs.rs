@@ -1,4 +1,4 @@
-//! The fixed set of programs whose expansions by the unchanged Rust are listed.
+//! The fixed set of programs whose expansions by the reference are listed.
 
 use crate::encode::{rd, rs1, rs2};
 use crate::rowline::expansion;
@@ -84,7 +84,7 @@ fn registers(number: usize) -> u32 {
 }
 
 /// The words of sll and srl with every funct7: all are register shifts to the
-/// source.
+/// reference.
 fn stray_funct7() -> Vec<u32> {
     let word = |number| SHIFTS[number % 2] | registers(number) | (number as u32 / 2) << 25;
     (0..2 * 128).map(word).collect()
@@ -136,7 +136,7 @@ mod tests {
     use crate::rowline::{KIND, PROGRAMS};
     use std::collections::HashSet;
 
-    /// By the manual's fields, not by the source.
+    /// By the manual's fields, not by the reference.
     fn is_shift(word: u32) -> bool {
         matches!(word & 0x707f, 0x1033 | 0x5033)
     }

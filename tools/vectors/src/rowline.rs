@@ -23,8 +23,7 @@ pub const PROGRAMS: ListKind = ListKind {
     rarity: |_| 1,
 };
 
-/// The lines of a program, each with its line feed: the answer of the
-/// unchanged Rust.
+/// The lines of a program, each with its line feed: the answer of the reference.
 pub fn expansion(program: &[u32]) -> String {
     let expanded = expand_program(program);
     let starts = &expanded.inst_to_micro;

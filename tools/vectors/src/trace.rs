@@ -1,5 +1,5 @@
-//! The fixed set of inputs of the program `trace` whose answers by the unchanged
-//! Rust are listed, and random inputs.
+//! The fixed set of inputs of the program `trace` whose answers by the reference
+//! are listed, and random inputs.
 
 #[cfg(test)]
 mod claims;

@@ -18,8 +18,7 @@ pub const TRACES: ListKind = ListKind {
     rarity: |line| if is_record(line) { 16 } else { 1 },
 };
 
-/// The lines of a case, each with its line feed: the answer of the unchanged
-/// Rust.
+/// The lines of a case, each with its line feed: the answer of the reference.
 pub fn case(input: &[u8]) -> String {
     let digits: String = input.iter().map(|byte| format!("{byte:02x}")).collect();
     let answer = answer(input);

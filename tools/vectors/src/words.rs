@@ -1,4 +1,4 @@
-//! The fixed set of words whose answers by the unchanged Rust are listed.
+//! The fixed set of words whose answers by the reference are listed.
 
 use crate::immediate::Immediate::{self, B, I, J, S, U};
 use crate::listing::{join, Line};
@@ -14,7 +14,7 @@ pub const OPCODE_BITS: u32 = 0x7f;
 pub const ECALL: u32 = 0x0000_0073;
 pub const EBREAK: u32 = 0x0010_0073;
 
-/// The opcode numbers that the source matches, with the immediate format of
+/// The opcode numbers that the reference matches, with the immediate format of
 /// each. The last four have no immediate; there the bits of an I immediate are
 /// used, to show that the answer does not depend on them.
 pub const OPCODES: [(u32, Immediate); 13] = [
@@ -37,7 +37,7 @@ pub const OPCODES: [(u32, Immediate); 13] = [
 const FILLINGS: [u32; 3] = [0, u32::MAX, 0xaaaa_aaaa];
 
 pub fn listing() -> String {
-    join(all().into_iter().map(Line::of_source))
+    join(all().into_iter().map(Line::of_reference))
 }
 
 pub fn all() -> Vec<u32> {
@@ -135,9 +135,9 @@ mod tests {
     }
 
     #[test]
-    fn opcodes_are_those_the_source_matches() {
+    fn opcodes_are_those_the_reference_matches() {
         let matched: Vec<u32> = (0..=OPCODE_BITS)
-            .filter(|&opcode| Line::of_source(opcode).class != "Invalid")
+            .filter(|&opcode| Line::of_reference(opcode).class != "Invalid")
             .collect();
         let mut ours = OPCODES.map(|(opcode, _)| opcode);
         ours.sort_unstable();
@@ -148,7 +148,7 @@ mod tests {
     fn all_classes_occur() {
         let classes: HashSet<String> = all()
             .into_iter()
-            .map(|word| Line::of_source(word).class)
+            .map(|word| Line::of_reference(word).class)
             .collect();
         assert_eq!(classes.len(), 15);
     }

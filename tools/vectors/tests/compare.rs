@@ -87,7 +87,7 @@ fn the_script_says_what_is_missing() {
     assert!(text.contains("run rt check trace first"), "{text}");
     let text = complaint(STAND_IN, "/no/such/source");
     assert!(
-        text.contains("the unchanged Rust source is not in /no/such/source"),
+        text.contains("the Rust source of magnetar-cpu is not in /no/such/source"),
         "{text}"
     );
 }

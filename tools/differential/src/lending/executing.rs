@@ -1,7 +1,7 @@
 //! An execution.
 
 use super::{image_mut, Lend};
-use crate::machine::{execute_refusal, execute_source, image_of, write_log};
+use crate::machine::{execute_reference, execute_refusal, image_of, write_log};
 use crate::{Lent, Rng, Rom};
 use magnetar_cpu::{words, Cursor};
 
@@ -52,7 +52,7 @@ impl Lend for Executing<'_> {
         let answer = execute_refusal(self.rom, self.max_cycles, room);
         if answer == 0 {
             let input = self.input.words();
-            let (log, cursor) = execute_source(&self.rom.rows, input, self.max_cycles as usize);
+            let (log, cursor) = execute_reference(&self.rom.rows, input, self.max_cycles as usize);
             write_log(&log, self.records.words_mut());
             self.live.words_mut()[0] = cursor.st.cycles as u64;
             self.record_count.words_mut()[0] = log.len() as u64;

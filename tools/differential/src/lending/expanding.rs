@@ -6,7 +6,7 @@ use magnetar_cpu::words;
 
 #[derive(Clone)]
 pub struct Expanding<'a> {
-    /// What the unchanged Rust makes of the program.
+    /// What the reference makes of the program.
     pub expansion: &'a Expansion,
     pub program: Lent<u32>,
     pub rows: Lent<u64>,

@@ -1,7 +1,7 @@
 //! A segment or padding call.
 
 use super::Lend;
-use crate::machine::{cursor_of, image_of, refusal, run_source, write_log};
+use crate::machine::{cursor_of, image_of, refusal, run_reference, write_log};
 use crate::{Call, Lent, Rng, Rom};
 use magnetar_cpu::{words, Image};
 
@@ -62,7 +62,7 @@ impl Lend for Running<'_> {
         if answer == 0 {
             let program = self.rom.program.as_ref().expect("accepted rows");
             let mut cursor = cursor_of(&self.image());
-            let log = run_source(self.call, program, &mut cursor, self.length as usize);
+            let log = run_reference(self.call, program, &mut cursor, self.length as usize);
             write_log(&log, self.records.words_mut());
             *image_mut(&mut self.cursor) = image_of(&cursor);
         }

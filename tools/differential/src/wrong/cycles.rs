@@ -2,7 +2,7 @@
 
 use super::{OfCycle, Variant};
 use crate::lending::image_mut;
-use crate::machine::{cursor_of, image_of, run_source};
+use crate::machine::{cursor_of, image_of, run_reference};
 use crate::{pack, Call, Running, STAGES};
 use magnetar_cpu::RECORD_WORDS;
 use magnetar_reference::expand::{ExpandedProgram, RomRow, VirtualKind};
@@ -11,7 +11,7 @@ use magnetar_reference::interp::{CycleRecord, StreamCursor};
 /// Where instructions with destination 0 write.
 const SPARE: usize = 32;
 
-/// A cycle that the unchanged Rust has run.
+/// A cycle that the reference has run.
 pub struct Cycle<'a> {
     program: &'a ExpandedProgram,
     row: &'a RomRow,
@@ -200,7 +200,7 @@ pub fn run_wrong(before: &Running, after: &mut Running, wrong: OfCycle) {
     let places = after.records.words_mut().chunks_exact_mut(RECORD_WORDS);
     for place in places.take(before.length as usize) {
         let cursor_before = cursor.clone();
-        let mut record = run_source(call, program, &mut cursor, 1).remove(0);
+        let mut record = run_reference(call, program, &mut cursor, 1).remove(0);
         wrong(&mut Cycle {
             program,
             row: &program.rows[record.micro_pc].row,

@@ -2,7 +2,7 @@
 
 use super::{change, OfExecute, Variant};
 use crate::lending::image_mut;
-use crate::machine::{execute_source, image_of, run_source, MOST_EXECUTED};
+use crate::machine::{execute_reference, image_of, run_reference, MOST_EXECUTED};
 use crate::{Call, Executing, Lend, Lent, GUARDS};
 use magnetar_cpu::{Cursor, RECORD_WORDS};
 use magnetar_reference::interp::StreamCursor;
@@ -136,7 +136,7 @@ fn due(executing: &Executing) -> u128 {
 fn live_count(executing: &Executing) -> u64 {
     let max_cycles = executing.max_cycles.min(1000) as usize;
     let input = executing.input.words();
-    let (_, cursor) = execute_source(&executing.rom.rows, input, max_cycles);
+    let (_, cursor) = execute_reference(&executing.rom.rows, input, max_cycles);
     cursor.st.cycles as u64
 }
 
@@ -166,7 +166,7 @@ fn unpadded_cursor(before: &Executing, after: &mut Executing, answer: &mut u64) 
         let program = before.rom.program.as_ref().expect("accepted rows");
         let mut cursor = StreamCursor::start(before.input.words());
         let live = after.live.words()[0] as usize;
-        run_source(Call::Segment, program, &mut cursor, live);
+        run_reference(Call::Segment, program, &mut cursor, live);
         *image_mut(&mut after.cursor) = image_of(&cursor);
     }
 }

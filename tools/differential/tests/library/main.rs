@@ -1,4 +1,4 @@
-//! The static library against the unchanged Rust.
+//! The static library against the reference.
 
 #![forbid(unsafe_code)]
 

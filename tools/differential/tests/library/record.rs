@@ -1,4 +1,4 @@
-//! The view of a record against the fields of the source's record.
+//! The view of a record against the fields of the reference's record.
 
 use differential::{pack, Rng};
 use magnetar_cpu::Record;
@@ -42,7 +42,7 @@ fn random_record(rng: &mut Rng) -> CycleRecord {
     }
 }
 
-/// The source's record that the view shows.
+/// The reference's record that the view shows.
 fn seen(record: Record) -> CycleRecord {
     CycleRecord {
         micro_pc: record.micro_pc() as usize,

@@ -5,9 +5,9 @@ use crate::asm::{auipc, lui, op, op32, op_imm, op_imm32};
 use crate::calllist::CallList;
 
 /// funct7 and funct3 of the register forms that the manual defines, and of slt,
-/// which gives zero in the source.
+/// which gives zero in the reference.
 const REGISTER_FORMS: [(u32, u32); 7] = [(0, 0), (0x20, 0), (0, 2), (0, 3), (0, 4), (0, 6), (0, 7)];
-/// Others of the same opcode. Only 0x20 makes a difference to the source, and
+/// Others of the same opcode. Only 0x20 makes a difference to the reference, and
 /// only with funct3 0.
 const STRAY_FORMS: [(u32, u32); 4] = [(0x01, 0), (0x7f, 0), (0x20, 3), (0x20, 7)];
 /// The last has 0x20 where a register form has funct7.
@@ -69,7 +69,7 @@ fn immediate_shifts(funct3: u32, bits: i64) -> Vec<u32> {
         .collect()
 }
 
-/// The 32-bit opcodes, which the source takes for 64-bit ones, of two funct3.
+/// The 32-bit opcodes, which the reference takes for 64-bit ones, of two funct3.
 fn word_forms(funct3: u32) -> Vec<u32> {
     let form = |number: u32| {
         let (d, left, right) = (destination(number), 1 + number % 8, 1 + number * 3 % 8);

@@ -6,7 +6,7 @@ use crate::calllist::CallList;
 
 /// funct7 and funct3 of sll, srl and sra.
 pub const SHIFTS: [(u32, u32); 3] = [(0, 1), (0, 5), (0x20, 5)];
-/// Of the others the source takes funct3 1 for sll and funct3 5 for srl.
+/// Of the others the reference takes funct3 1 for sll and funct3 5 for srl.
 const STRAY_SHIFTS: [(u32, u32); 6] = [
     (0x20, 1),
     (0x7f, 1),

@@ -1,5 +1,5 @@
 //! A program of a few words with registers and RAM before it, and what the
-//! unchanged Rust makes of it.
+//! reference makes of it.
 
 use crate::callline::{line, numbers};
 use magnetar_reference::expand::expand_program;
@@ -80,8 +80,8 @@ impl Case {
             + &words.chain(registers).chain(ram).collect::<String>()
     }
 
-    /// The machine of the unchanged Rust after it, and its last record.
-    pub fn run_source(&self) -> (StreamCursor, CycleRecord) {
+    /// The machine of the reference after it, and its last record.
+    pub fn run_reference(&self) -> (StreamCursor, CycleRecord) {
         let mut cursor = StreamCursor::start(&self.ram());
         cursor.st.regs[..REGISTERS].copy_from_slice(&self.registers());
         let program = expand_program(&self.words);
@@ -90,11 +90,11 @@ impl Case {
         (cursor, last)
     }
 
-    /// What of the machine of the unchanged Rust the manual's machine has, too.
-    pub fn state_in_source(&self) -> State {
-        let (cursor, last) = self.run_source();
+    /// What of the machine of the reference the manual's machine has, too.
+    pub fn state_in_reference(&self) -> State {
+        let (cursor, last) = self.run_reference();
         let mut registers = cursor.st.regs[..REGISTERS].to_vec();
-        // The source uses the cell of x0 in register shifts.
+        // The reference uses the cell of x0 in register shifts.
         registers[0] = 0;
         State {
             registers,
@@ -230,14 +230,14 @@ mod tests {
     }
 
     #[test]
-    fn the_source_runs_it() {
+    fn the_reference_runs_it() {
         // sll x3,x1,x2 leaves the cell of x0 filled; bne x1,x2,.+8
         let shift = case(&[0x0020_91b3], &[(1, 1), (2, 3)], &[]);
-        assert_eq!(shift.run_source().0.st.regs[0], 8);
-        let state = shift.state_in_source();
+        assert_eq!(shift.run_reference().0.st.regs[0], 8);
+        let state = shift.state_in_reference();
         assert_eq!(state.registers[..4], [0, 1, 3, 8]);
         assert!(!state.taken && !shift.branches());
         let branch = case(&[0x0020_9463], &[(1, 1)], &[]);
-        assert!(branch.state_in_source().taken && branch.branches());
+        assert!(branch.state_in_reference().taken && branch.branches());
     }
 }

@@ -18,10 +18,10 @@
 //! 15. it is said twice
 //! 16. it is said of another instruction
 //! 17. a good difference
-//! 18. a difference whose register has another value by the source
+//! 18. a difference whose register has another value by the reference
 //! 19. one whose RAM word has
 //! 20. one whose next row has
-//! 21. one in which the manual says what the source has
+//! 21. one in which the manual says what the reference has
 //! 22. one without what the manual says
 //! 23. one that says two things
 //! 24. one that says nothing

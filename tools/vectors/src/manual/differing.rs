@@ -90,14 +90,14 @@ impl Difference {
     fn lines(&self, manual: Option<u64>) -> Result<String, String> {
         let Difference { case, place, .. } = self;
         let refuse = |why: &str| Err(format!("{case:x?}: {place:?} {why}"));
-        let Some(source) = place.in_source(&case.run_source().0) else {
-            return refuse("is no place of the source");
+        let Some(reference) = place.in_reference(&case.run_reference().0) else {
+            return refuse("is no place of the reference");
         };
         match (&self.manual, manual) {
-            (Undefined, _) => Ok(undefined_lines(case, *place, source)),
+            (Undefined, _) => Ok(undefined_lines(case, *place, reference)),
             (_, None) => refuse("is no place of qemu"),
-            (_, Some(value)) if value == source => refuse("is the same in the manual"),
-            (_, Some(value)) => Ok(differing(case, *place, source, value)),
+            (_, Some(value)) if value == reference => refuse("is the same in the manual"),
+            (_, Some(value)) => Ok(differing(case, *place, reference, value)),
         }
     }
 }

@@ -12,7 +12,7 @@
 //! - `g`, `r`: a register or a RAM word after it; number and value
 //! - `t`: last, of a branch, whether it is taken
 //!
-//! and of `d` and `u` one line. Its last numbers are what the source has and, of
+//! and of `d` and `u` one line. Its last numbers are what the reference has and, of
 //! `d`, what the manual has:
 //!
 //! - `g`, `r`: a register cell, which is one of 64, or a RAM word; its number first
@@ -52,8 +52,8 @@ impl Place {
         }
     }
 
-    /// What the unchanged Rust has there. `None`: there is no such cell.
-    pub fn in_source(self, cursor: &StreamCursor) -> Option<u64> {
+    /// What the reference has there. `None`: there is no such cell.
+    pub fn in_reference(self, cursor: &StreamCursor) -> Option<u64> {
         match self {
             Place::Register(number) => cursor.st.regs.get(number as usize).copied(),
             Place::Ram(number) => cursor.st.ram.get(number as usize).copied(),
@@ -108,13 +108,13 @@ pub fn agreeing(case: &Case, state: &State) -> String {
 }
 
 /// The lines of a case on which they differ.
-pub fn differing(case: &Case, place: Place, source: u64, manual: u64) -> String {
-    case.head('d') + &place.line(&[source, manual])
+pub fn differing(case: &Case, place: Place, reference: u64, manual: u64) -> String {
+    case.head('d') + &place.line(&[reference, manual])
 }
 
 /// The lines of a case that RV64I does not define.
-pub fn undefined(case: &Case, place: Place, source: u64) -> String {
-    case.head('u') + &place.line(&[source])
+pub fn undefined(case: &Case, place: Place, reference: u64) -> String {
+    case.head('u') + &place.line(&[reference])
 }
 
 /// The letter of a case that begins with this line.
@@ -133,7 +133,7 @@ fn first_wrong(part: &[u8]) -> Option<usize> {
         Err(line) => return Some(line),
     };
     let right = match letter {
-        'a' => agreeing(&case, &case.state_in_source()),
+        'a' => agreeing(&case, &case.state_in_reference()),
         _ => match shown(letter, &case, kept.get(behind).copied()) {
             Some(lines) => lines,
             // The line of the place is missing or says nothing that could be right.
@@ -144,13 +144,15 @@ fn first_wrong(part: &[u8]) -> Option<usize> {
 }
 
 /// The right lines of a case `d` or `u`, of which the place and the manual's value
-/// come from this line. The latter is only known not to be the source's.
+/// come from this line. The latter is only known not to be the reference's.
 fn shown(letter: char, case: &Case, text: Option<&[u8]>) -> Option<String> {
     let (place, values) = Place::read(text?)?;
-    let source = place.in_source(&case.run_source().0)?;
+    let reference = place.in_reference(&case.run_reference().0)?;
     match (letter, values.as_slice()) {
-        ('d', &[_, manual]) if manual != source => Some(differing(case, place, source, manual)),
-        ('u', &[_]) => Some(undefined(case, place, source)),
+        ('d', &[_, manual]) if manual != reference => {
+            Some(differing(case, place, reference, manual))
+        }
+        ('u', &[_]) => Some(undefined(case, place, reference)),
         _ => None,
     }
 }

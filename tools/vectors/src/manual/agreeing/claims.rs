@@ -44,9 +44,9 @@ fn the_list_is_what_qemu_gives() {
     assert!(list == stored("qemu.txt"), "another list");
 }
 
-/// qemu and the unchanged Rust agree on every case.
+/// qemu and the reference agree on every case.
 #[test]
-fn the_source_agrees() {
+fn the_reference_agrees() {
     let list = stored("qemu.txt");
     assert_eq!(MANUAL.wrong_lines(list.as_bytes()), []);
 }

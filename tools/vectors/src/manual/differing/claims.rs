@@ -17,8 +17,8 @@ fn of(letter: char) -> Vec<&'static Told> {
 }
 
 #[test]
-fn the_list_is_what_qemu_the_table_and_the_source_give() {
-    let test = "the_list_is_what_qemu_the_table_and_the_source_give";
+fn the_list_is_what_qemu_the_table_and_the_reference_give() {
+    let test = "the_list_is_what_qemu_the_table_and_the_reference_give";
     let Some(list) = unless_absent(test, listing()) else {
         return;
     };
@@ -26,7 +26,7 @@ fn the_list_is_what_qemu_the_table_and_the_source_give() {
 }
 
 #[test]
-fn the_source_has_what_is_said_of_it() {
+fn the_reference_has_what_is_said_of_it() {
     let list = stored("differences.txt");
     assert_eq!(MANUAL.wrong_lines(list.as_bytes()), []);
 }
@@ -83,7 +83,7 @@ fn what_is_no_difference_is_refused() {
     let lines = |place, value| shown(place, Manual::Says(0), &[NOP], &[(1, 5)], &[]).lines(value);
     let refused = [
         (Register(1), Some(5), "is the same in the manual"),
-        (Register(64), Some(5), "is no place of the source"),
+        (Register(64), Some(5), "is no place of the reference"),
         (Row, None, "is no place of qemu"),
     ];
     for (place, value, why) in refused {

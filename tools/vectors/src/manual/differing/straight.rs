@@ -23,7 +23,7 @@ pub fn differences() -> Vec<Difference> {
     groups.into_iter().flatten().collect()
 }
 
-/// The sign does not count in the source, and shifts of 32 and more have none.
+/// The sign does not count in the reference, and shifts of 32 and more have none.
 fn comparisons() -> Vec<Difference> {
     let of_x1 = |word, x1| shown(Register(1), Qemu, &[word], &[(1, x1)], &[]);
     vec![
@@ -92,7 +92,7 @@ fn stores() -> Vec<Difference> {
     halves.into_iter().chain(words).chain(doublewords).collect()
 }
 
-/// The source has 2,048 bytes, which stand for all addresses. In qemu there are
+/// The reference has 2,048 bytes, which stand for all addresses. In qemu there are
 /// zeros behind them.
 fn addresses() -> Vec<Difference> {
     let end = [(1, 0x800)];

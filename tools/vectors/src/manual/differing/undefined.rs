@@ -1,4 +1,4 @@
-//! Encodings that RV64I does not define, and what the source does with them.
+//! Encodings that RV64I does not define, and what the reference does with them.
 
 use super::{after, shown, Difference, Halted, Ram, Register, Row, Undefined, CONTENT, NOP};
 use crate::asm::{branch, jalr, load, op, op32, op_imm, op_imm32, store};
