@@ -48,7 +48,10 @@ extern "C" {
 #define MAGNETAR_NO_EXPANSION 3
 /* micro_pc or next_fetch is not below the row count. */
 #define MAGNETAR_OUTSIDE_ROWS 4
-/* cycles + length is over MAGNETAR_MAX_CYCLES, or max_cycles over MAGNETAR_MAX_EXECUTED. */
+/*
+ * cycles + length is over MAGNETAR_MAX_TOTAL_CYCLES, or max_cycles over
+ * MAGNETAR_MAX_EXECUTE_CYCLES.
+ */
 #define MAGNETAR_TOO_MANY_CYCLES 5
 /* A buffer is too short for what goes into it. */
 #define MAGNETAR_SHORT 6
@@ -59,9 +62,9 @@ extern "C" {
 /* As many as the longest program has, if all its words are register shifts. */
 #define MAGNETAR_MAX_ROWS 6291456
 /* Of a cursor's cycles and a segment's length together: 2^62. */
-#define MAGNETAR_MAX_CYCLES ((uint64_t)1 << 62)
-/* Of max_cycles: 2^32. */
-#define MAGNETAR_MAX_EXECUTED ((uint64_t)1 << 32)
+#define MAGNETAR_MAX_TOTAL_CYCLES ((uint64_t)1 << 62)
+/* Of max_cycles of magnetar_execute: 2^32. */
+#define MAGNETAR_MAX_EXECUTE_CYCLES ((uint64_t)1 << 32)
 /* The most rows that one program word gives. */
 #define MAGNETAR_ROWS_PER_WORD 6
 
@@ -176,8 +179,9 @@ void magnetar_start(const uint64_t *input, size_t input_len,
  *
  * Refused: 1 if rows_len is 0; 2 if it is over MAGNETAR_MAX_ROWS; 3 if the rows
  * are not the expansion of a program; 4 if the cursor's micro_pc or next_fetch
- * is not below rows_len; 5 if its cycles + length is over MAGNETAR_MAX_CYCLES,
- * also on a halted machine; 6 if records_len is below 17 * length.
+ * is not below rows_len; 5 if its cycles + length is over
+ * MAGNETAR_MAX_TOTAL_CYCLES, also on a halted machine; 6 if records_len is below
+ * 17 * length.
  *
  * Written: the records, 17 * length words from records[0] on; the cursor after
  * the cycles, whose halted word becomes 0 or 1 also where length is 0.
@@ -214,7 +218,7 @@ uint64_t magnetar_padding(const uint64_t *rows, size_t rows_len,
  *
  * Refused: 1 if rows_len is 0; 2 if it is over MAGNETAR_MAX_ROWS; 3 if the rows
  * are not the expansion of a program; 5 if max_cycles is over
- * MAGNETAR_MAX_EXECUTED; 6 if records_len is below 17 * p, where p is the
+ * MAGNETAR_MAX_EXECUTE_CYCLES; 6 if records_len is below 17 * p, where p is the
  * smallest power of two that is at least max_cycles and 1, even if the run
  * would halt earlier.
  *

@@ -67,7 +67,7 @@ static size_t read_program(const char *path)
 static uint64_t execute(struct run *run)
 {
     uint64_t room = MAGNETAR_RECORD_WORDS;
-    while (run->max_cycles <= MAGNETAR_MAX_EXECUTED && room < MAGNETAR_RECORD_WORDS * run->max_cycles)
+    while (run->max_cycles <= MAGNETAR_MAX_EXECUTE_CYCLES && room < MAGNETAR_RECORD_WORDS * run->max_cycles)
         room *= 2;
     run->records = words(room);
     return magnetar_execute(rows, run->row_count, run->input, run->input_len, run->max_cycles, run->records, room,

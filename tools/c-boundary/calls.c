@@ -183,7 +183,7 @@ static void refused_lengths(enum placement placement)
     for (size_t i = 0; i < sizeof lengths / sizeof *lengths; i++) {
         for (size_t k = 0; k < sizeof rooms / sizeof *rooms; k++) {
             struct call c = {"long", RULE, .length = lengths[i], .room = rooms[k]};
-            c.answer = c.length > MAGNETAR_MAX_CYCLES ? MAGNETAR_TOO_MANY_CYCLES : MAGNETAR_SHORT;
+            c.answer = c.length > MAGNETAR_MAX_TOTAL_CYCLES ? MAGNETAR_TOO_MANY_CYCLES : MAGNETAR_SHORT;
             call_case(placement, &c);
             c.is_padding = 1;
             c.answer = MAGNETAR_SHORT;

@@ -8,8 +8,8 @@
 #include <sys/mman.h>
 #include <unistd.h>
 
-#define MOST_WORDS MAGNETAR_MAX_PROGRAM_WORDS
-#define MOST_ROWS MAGNETAR_MAX_ROWS
+#define MAX_PROGRAM_WORDS MAGNETAR_MAX_PROGRAM_WORDS
+#define MAX_ROWS MAGNETAR_MAX_ROWS
 #define STAGES MAGNETAR_ROWS_PER_WORD
 #define MARK UINT64_C(0x5a3c1e0000000000)
 
@@ -63,26 +63,27 @@ static uint64_t wrong_stages(const uint64_t *rows, size_t n)
 /* A program of the most words, all register shifts, so with the most rows; then one row short, and one word more. */
 static void longest_program(uint64_t *rows)
 {
-    uint32_t *program = (uint32_t *)needed(end_of_memory(4 * (MOST_WORDS + 1))) - (MOST_WORDS + 1);
-    uint64_t *starts = (uint64_t *)needed(end_of_memory(8 * MOST_WORDS)) - MOST_WORDS;
+    uint32_t *program = (uint32_t *)needed(end_of_memory(4 * (MAX_PROGRAM_WORDS + 1))) - (MAX_PROGRAM_WORDS + 1);
+    uint64_t *starts = (uint64_t *)needed(end_of_memory(8 * MAX_PROGRAM_WORDS)) - MAX_PROGRAM_WORDS;
     uint64_t count = MARK;
-    for (size_t i = 0; i <= MOST_WORDS; i++)
+    for (size_t i = 0; i <= MAX_PROGRAM_WORDS; i++)
         program[i] = SLL;
-    mark(rows, MOST_ROWS);
-    mark(starts, MOST_WORDS);
+    mark(rows, MAX_ROWS);
+    mark(starts, MAX_PROGRAM_WORDS);
     begin(AT_LAST_WORD, "magnetar_expand", "the most words and one more");
-    check("answer", magnetar_expand(program, MOST_WORDS + 1, rows, MOST_ROWS, starts, MOST_WORDS, &count),
+    check("answer", magnetar_expand(program, MAX_PROGRAM_WORDS + 1, rows, MAX_ROWS, starts, MAX_PROGRAM_WORDS, &count),
           MAGNETAR_TOO_MANY_ROWS);
     begin(AT_LAST_WORD, "magnetar_expand", "the most words, rows one short");
-    check("answer", magnetar_expand(program + 1, MOST_WORDS, rows + 1, MOST_ROWS - 1, starts, MOST_WORDS, &count), 6);
-    check("rows that changed", others(rows, MOST_ROWS, MARK, 1), 0);
-    check("starts that changed", others(starts, MOST_WORDS, MARK, 1), 0);
+    check("answer",
+          magnetar_expand(program + 1, MAX_PROGRAM_WORDS, rows + 1, MAX_ROWS - 1, starts, MAX_PROGRAM_WORDS, &count), 6);
+    check("rows that changed", others(rows, MAX_ROWS, MARK, 1), 0);
+    check("starts that changed", others(starts, MAX_PROGRAM_WORDS, MARK, 1), 0);
     check("count", count, MARK);
     begin(AT_LAST_WORD, "magnetar_expand", "the most words");
-    check("answer", magnetar_expand(program + 1, MOST_WORDS, rows, MOST_ROWS, starts, MOST_WORDS, &count), 0);
-    check("wrong rows", wrong_stages(rows, MOST_ROWS), 0);
-    check("wrong starts", others(starts, MOST_WORDS, 0, STAGES), 0);
-    check("count", count, MOST_ROWS);
+    check("answer", magnetar_expand(program + 1, MAX_PROGRAM_WORDS, rows, MAX_ROWS, starts, MAX_PROGRAM_WORDS, &count), 0);
+    check("wrong rows", wrong_stages(rows, MAX_ROWS), 0);
+    check("wrong starts", others(starts, MAX_PROGRAM_WORDS, 0, STAGES), 0);
+    check("count", count, MAX_ROWS);
 }
 
 /* A live cycle at the last row, after which the first is next. */
@@ -90,17 +91,17 @@ static void most_rows(const uint64_t *rows)
 {
     uint64_t image[MAGNETAR_CURSOR_WORDS], records[2 * MAGNETAR_RECORD_WORDS], live, count;
     ready_image(image);
-    image[MAGNETAR_CURSOR_MICRO_PC] = MOST_ROWS - 1;
+    image[MAGNETAR_CURSOR_MICRO_PC] = MAX_ROWS - 1;
     begin(AT_LAST_WORD, "magnetar_segment", "the most rows");
-    check("answer", magnetar_segment(rows, MOST_ROWS, image, 1, records, 17), 0);
-    check("record's micro_pc", records[MAGNETAR_RECORD_MICRO_PC], MOST_ROWS - 1);
+    check("answer", magnetar_segment(rows, MAX_ROWS, image, 1, records, 17), 0);
+    check("record's micro_pc", records[MAGNETAR_RECORD_MICRO_PC], MAX_ROWS - 1);
     check("micro_pc", image[MAGNETAR_CURSOR_MICRO_PC], 0);
-    image[MAGNETAR_CURSOR_NEXT_FETCH] = MOST_ROWS - 1;
+    image[MAGNETAR_CURSOR_NEXT_FETCH] = MAX_ROWS - 1;
     begin(AT_LAST_WORD, "magnetar_padding", "the most rows");
-    check("answer", magnetar_padding(rows, MOST_ROWS, image, 1, records, 17), 0);
-    check("record's micro_pc", records[MAGNETAR_RECORD_MICRO_PC], MOST_ROWS - 1);
+    check("answer", magnetar_padding(rows, MAX_ROWS, image, 1, records, 17), 0);
+    check("record's micro_pc", records[MAGNETAR_RECORD_MICRO_PC], MAX_ROWS - 1);
     begin(AT_LAST_WORD, "magnetar_execute", "the most rows");
-    check("answer", magnetar_execute(rows, MOST_ROWS, rows, 0, 2, records, 34, image, &live, &count), 0);
+    check("answer", magnetar_execute(rows, MAX_ROWS, rows, 0, 2, records, 34, image, &live, &count), 0);
     check("live", live, 2);
     check("micro_pc", image[MAGNETAR_CURSOR_MICRO_PC], 2);
 }
@@ -115,24 +116,24 @@ static void too_many_rows(const uint64_t *rows, const char *text, uint64_t micro
     begin(AT_LAST_WORD, "magnetar_segment", text);
     uint64_t *cursor = lend_room("cursor", image, MAGNETAR_CURSOR_WORDS);
     uint64_t *records = lend_room("records", NULL, room);
-    end(magnetar_segment(rows, MOST_ROWS + 1, cursor, length, records, room), MAGNETAR_TOO_MANY_ROWS);
+    end(magnetar_segment(rows, MAX_ROWS + 1, cursor, length, records, room), MAGNETAR_TOO_MANY_ROWS);
     begin(AT_LAST_WORD, "magnetar_padding", text);
     cursor = lend_room("cursor", image, MAGNETAR_CURSOR_WORDS);
     records = lend_room("records", NULL, room);
-    end(magnetar_padding(rows, MOST_ROWS + 1, cursor, length, records, room), MAGNETAR_TOO_MANY_ROWS);
+    end(magnetar_padding(rows, MAX_ROWS + 1, cursor, length, records, room), MAGNETAR_TOO_MANY_ROWS);
     begin(AT_LAST_WORD, "magnetar_execute", text);
     cursor = lend_room("cursor", NULL, MAGNETAR_CURSOR_WORDS);
     records = lend_room("records", NULL, room);
     const uint64_t *input = lend_words("input", image, 1);
     uint64_t *live = lend_room("live", NULL, 1), *count = lend_room("record_count", NULL, 1);
-    end(magnetar_execute(rows, MOST_ROWS + 1, input, 1, length, records, room, cursor, live, count),
+    end(magnetar_execute(rows, MAX_ROWS + 1, input, 1, length, records, room, cursor, live, count),
         MAGNETAR_TOO_MANY_ROWS);
 }
 
 /* Records for 2^32 cycles are 544 GiB: lent as memory that is made when it is touched, and only four records are. */
 static void most_cycles(void)
 {
-    size_t room = MAGNETAR_RECORD_WORDS * MAGNETAR_MAX_EXECUTED;
+    size_t room = MAGNETAR_RECORD_WORDS * MAGNETAR_MAX_EXECUTE_CYCLES;
     uint64_t *end = end_of_memory(8 * room), image[MAGNETAR_CURSOR_WORDS], wanted[MAGNETAR_RECORD_WORDS];
     if (end == NULL) {
         printf("not run: magnetar_execute with 2^32 cycles, for which there are no addresses\n");
@@ -160,12 +161,12 @@ static void most_cycles(void)
 void limit_cases(void)
 {
     /* Room for one row more than a call takes: the first place is for that row. */
-    uint64_t *rows = (uint64_t *)needed(end_of_memory(8 * (MOST_ROWS + 1))) - (MOST_ROWS + 1);
+    uint64_t *rows = (uint64_t *)needed(end_of_memory(8 * (MAX_ROWS + 1))) - (MAX_ROWS + 1);
     longest_program(rows + 1);
     most_rows(rows + 1);
     rows[0] = ADDI;
     begin(AT_LAST_WORD, "magnetar_is_expansion", "more rows than a call takes");
-    check("answer", magnetar_is_expansion(rows, MOST_ROWS + 1), 1);
+    check("answer", magnetar_is_expansion(rows, MAX_ROWS + 1), 1);
     too_many_rows(rows, "2 is met", 0, 1, 17);
     too_many_rows(rows, "2 and 4 to 6 are met", MOST, MOST, 0);
     rows[0] = odd_rows[0];

@@ -6,7 +6,9 @@
 //! line has the 17 words of a record. If the library refuses, the one line is
 //! `refused,N`.
 
-use magnetar_cpu::{execute, expand, records, Execution, Refusal, MAX_CYCLES, RECORD_WORDS};
+use magnetar_cpu::{
+    execute, expand, records, Execution, Refusal, MAX_EXECUTE_CYCLES, RECORD_WORDS,
+};
 use std::env;
 use std::error::Error;
 use std::fs;
@@ -64,7 +66,7 @@ fn number(text: &str) -> Result<u64, String> {
 /// As many words as that many cycles can need; none if they will be refused.
 fn record_buffer(max_cycles: u64) -> Result<Vec<u64>, Box<dyn Error>> {
     let mut buffer = Vec::new();
-    if max_cycles <= MAX_CYCLES {
+    if max_cycles <= MAX_EXECUTE_CYCLES {
         let records = usize::try_from(max_cycles.next_power_of_two())?;
         buffer.try_reserve_exact(RECORD_WORDS * records)?;
         buffer.resize(RECORD_WORDS * records, 0);

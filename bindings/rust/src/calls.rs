@@ -6,14 +6,14 @@ use crate::refusal::result;
 use crate::{words, Cursor, Refusal};
 
 /// The longest program that is accepted.
-pub const MAX_WORDS: usize = 1 << 20;
+pub const MAX_PROGRAM_WORDS: usize = 1 << 20;
 /// The most rows that are accepted: those of the longest program, all register
 /// shifts.
-pub const MAX_ROWS: usize = 6 * MAX_WORDS;
+pub const MAX_ROWS: usize = 6 * MAX_PROGRAM_WORDS;
 /// The most that a cursor's cycles and the length of a segment may be together.
-pub const MAX_CYCLES_SUM: u64 = 1 << 62;
+pub const MAX_TOTAL_CYCLES: u64 = 1 << 62;
 /// The most cycles that [`execute`] can be given.
-pub const MAX_CYCLES: u64 = 1 << 32;
+pub const MAX_EXECUTE_CYCLES: u64 = 1 << 32;
 
 /// Expands `program` into row words, raw + 2^32 × stage, and gives their count.
 ///
@@ -25,10 +25,10 @@ pub const MAX_CYCLES: u64 = 1 << 32;
 /// # Errors
 ///
 /// Both buffers are left as they were. Lowest number first:
-/// - [`Refusal::NoWords`], 1: the program is empty.
-/// - [`Refusal::TooManyWords`], 2: it has over [`MAX_WORDS`] words.
-/// - [`Refusal::ShortBuffer`], 6: `rows` is shorter than the expansion, or
-///   `starts` than the program.
+/// - [`Refusal::NoRows`], 1: the program is empty.
+/// - [`Refusal::TooManyRows`], 2: it has over [`MAX_PROGRAM_WORDS`] words.
+/// - [`Refusal::Short`], 6: `rows` is shorter than the expansion, or `starts`
+///   than the program.
 ///
 /// # Panics
 ///
@@ -67,14 +67,14 @@ pub fn start(input: &[u64]) -> Cursor {
 /// # Errors
 ///
 /// Cursor and records are left as they were. Lowest number first:
-/// - [`Refusal::NoWords`], 1: there are no rows.
-/// - [`Refusal::TooManyWords`], 2: there are over [`MAX_ROWS`].
+/// - [`Refusal::NoRows`], 1: there are no rows.
+/// - [`Refusal::TooManyRows`], 2: there are over [`MAX_ROWS`].
 /// - [`Refusal::NoExpansion`], 3: they are not the expansion of a program.
 /// - [`Refusal::OutsideRows`], 4: micro_pc or next_fetch is not below the row
 ///   count.
 /// - [`Refusal::TooManyCycles`], 5: the cursor's cycles and `length` are over
-///   [`MAX_CYCLES_SUM`] together, also on a halted machine and at length 0.
-/// - [`Refusal::ShortBuffer`], 6: `records` has fewer than 17 words a cycle.
+///   [`MAX_TOTAL_CYCLES`] together, also on a halted machine and at length 0.
+/// - [`Refusal::Short`], 6: `records` has fewer than 17 words a cycle.
 ///
 /// # Panics
 ///
@@ -135,11 +135,11 @@ pub struct Execution {
 /// # Errors
 ///
 /// The records are left as they were. Lowest number first:
-/// - [`Refusal::NoWords`], 1: there are no rows.
-/// - [`Refusal::TooManyWords`], 2: there are over [`MAX_ROWS`].
+/// - [`Refusal::NoRows`], 1: there are no rows.
+/// - [`Refusal::TooManyRows`], 2: there are over [`MAX_ROWS`].
 /// - [`Refusal::NoExpansion`], 3: they are not the expansion of a program.
-/// - [`Refusal::TooManyCycles`], 5: `max_cycles` is over [`MAX_CYCLES`].
-/// - [`Refusal::ShortBuffer`], 6: `records` has fewer places than are needed.
+/// - [`Refusal::TooManyCycles`], 5: `max_cycles` is over [`MAX_EXECUTE_CYCLES`].
+/// - [`Refusal::Short`], 6: `records` has fewer places than are needed.
 ///
 /// # Panics
 ///

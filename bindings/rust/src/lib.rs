@@ -66,7 +66,7 @@ pub mod words;
 
 pub use calls::{
     cursor_words, execute, expand, is_expansion, padding, same_checkpoint, segment, start,
-    Execution, MAX_CYCLES, MAX_CYCLES_SUM, MAX_ROWS, MAX_WORDS,
+    Execution, MAX_EXECUTE_CYCLES, MAX_PROGRAM_WORDS, MAX_ROWS, MAX_TOTAL_CYCLES,
 };
 pub use cursor::{Cursor, Image};
 pub use record::{records, Record, RECORD_WORDS};

@@ -2,54 +2,56 @@
 
 #![forbid(unsafe_code)]
 
-use crate::{MAX_CYCLES, MAX_CYCLES_SUM, MAX_ROWS, MAX_WORDS};
+use crate::{MAX_EXECUTE_CYCLES, MAX_PROGRAM_WORDS, MAX_ROWS, MAX_TOTAL_CYCLES};
 use std::error::Error;
 use std::fmt;
 
-/// Why a call was refused. Nothing that was lent to it has changed then. If
-/// there are several reasons, it is the one of the lowest number.
+/// Why a call was refused, by the names of the C header. Nothing that was lent to
+/// it has changed then. If there are several reasons, it is the one of the lowest
+/// number.
 #[derive(Clone, Copy, Debug, PartialEq, Eq, Hash)]
 pub enum Refusal {
     /// The program has no words, or there are no rows.
-    NoWords = 1,
-    /// The program has over [`MAX_WORDS`] words, or there are over [`MAX_ROWS`]
-    /// rows.
-    TooManyWords = 2,
+    NoRows = 1,
+    /// The program has over [`MAX_PROGRAM_WORDS`] words, or there are over
+    /// [`MAX_ROWS`] rows.
+    TooManyRows = 2,
     /// The rows are not the expansion of a program of any length.
     NoExpansion = 3,
     /// The cursor's micro_pc or next_fetch is not below the row count.
     OutsideRows = 4,
     /// The cursor's cycles and the length of a segment are over
-    /// [`MAX_CYCLES_SUM`] together, or `max_cycles` is over [`MAX_CYCLES`].
+    /// [`MAX_TOTAL_CYCLES`] together, or `max_cycles` is over
+    /// [`MAX_EXECUTE_CYCLES`].
     TooManyCycles = 5,
     /// The buffer of rows, of starts or of records is shorter than what could
     /// go into it.
-    ShortBuffer = 6,
+    Short = 6,
 }
 
 impl Refusal {
-    pub(crate) const EXPAND: [Self; 3] = [Self::NoWords, Self::TooManyWords, Self::ShortBuffer];
+    pub(crate) const EXPAND: [Self; 3] = [Self::NoRows, Self::TooManyRows, Self::Short];
     pub(crate) const SEGMENT: [Self; 6] = [
-        Self::NoWords,
-        Self::TooManyWords,
+        Self::NoRows,
+        Self::TooManyRows,
         Self::NoExpansion,
         Self::OutsideRows,
         Self::TooManyCycles,
-        Self::ShortBuffer,
+        Self::Short,
     ];
     pub(crate) const PADDING: [Self; 5] = [
-        Self::NoWords,
-        Self::TooManyWords,
+        Self::NoRows,
+        Self::TooManyRows,
         Self::NoExpansion,
         Self::OutsideRows,
-        Self::ShortBuffer,
+        Self::Short,
     ];
     pub(crate) const EXECUTE: [Self; 5] = [
-        Self::NoWords,
-        Self::TooManyWords,
+        Self::NoRows,
+        Self::TooManyRows,
         Self::NoExpansion,
         Self::TooManyCycles,
-        Self::ShortBuffer,
+        Self::Short,
     ];
 
     /// The library's number for it, 1 to 6.
@@ -61,19 +63,19 @@ impl Refusal {
 impl fmt::Display for Refusal {
     fn fmt(&self, f: &mut fmt::Formatter) -> fmt::Result {
         match self {
-            Refusal::NoWords => write!(f, "there are no program words, or no rows"),
-            Refusal::TooManyWords => write!(
+            Refusal::NoRows => write!(f, "there are no program words, or no rows"),
+            Refusal::TooManyRows => write!(
                 f,
-                "there are over {MAX_WORDS} program words, or over {MAX_ROWS} rows"
+                "there are over {MAX_PROGRAM_WORDS} program words, or over {MAX_ROWS} rows"
             ),
             Refusal::NoExpansion => write!(f, "the rows are not the expansion of a program"),
             Refusal::OutsideRows => write!(f, "micro_pc or next_fetch is not below the row count"),
             Refusal::TooManyCycles => write!(
                 f,
-                "cycles and length are over {MAX_CYCLES_SUM} together, \
-                 or max_cycles is over {MAX_CYCLES}"
+                "cycles and length are over {MAX_TOTAL_CYCLES} together, \
+                 or max_cycles is over {MAX_EXECUTE_CYCLES}"
             ),
-            Refusal::ShortBuffer => write!(f, "a buffer is too short for what may go into it"),
+            Refusal::Short => write!(f, "a buffer is too short for what may go into it"),
         }
     }
 }

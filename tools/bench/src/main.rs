@@ -10,7 +10,7 @@ mod untimed;
 
 use differential::{ordinary_word, program, register_shift, Rng};
 use machine::{Machine, LOOPS};
-use magnetar_cpu::MAX_WORDS;
+use magnetar_cpu::MAX_PROGRAM_WORDS;
 use mix::Mix;
 use report::{print_cold, print_expansion, print_machines, print_short, print_test};
 use short::Short;
@@ -126,7 +126,8 @@ impl Options {
 /// Prints the tables and gives the targets that were missed.
 fn run(rounds: usize) -> Result<Vec<Missed>, String> {
     let mut rng = Rng::new(SEED);
-    let mixes = MIXES.map(|(name, word)| Mix::new(name, program(MAX_WORDS, &mut rng, word)));
+    let mixes =
+        MIXES.map(|(name, word)| Mix::new(name, program(MAX_PROGRAM_WORDS, &mut rng, word)));
     let mut mixes = mixes.into_iter().collect::<Result<Vec<Mix>, String>>()?;
     for _ in 0..rounds {
         mixes.iter_mut().for_each(Mix::round);
@@ -135,7 +136,7 @@ fn run(rounds: usize) -> Result<Vec<Missed>, String> {
     for _ in 0..rounds {
         calls.round();
     }
-    println!("Programs of {MAX_WORDS} words, release build.");
+    println!("Programs of {MAX_PROGRAM_WORDS} words, release build.");
     println!("Rust and library in turn, best of {rounds} rounds.");
     let mut missed = Vec::new();
     print_expansion(&mixes, &mut missed);

@@ -103,7 +103,7 @@ uint64_t __wrap_magnetar_segment(const uint64_t *rows, size_t rows_len, uint64_t
     answer = other("segment takes more than the most rows", answer, 0, answer == MAGNETAR_TOO_MANY_ROWS);
     answer = other("segment has no 6", answer, 0, answer == MAGNETAR_SHORT);
     answer = other("segment has 6 before 5", answer, 6, answer == 5 && records_len / 17 < length);
-    answer = other("segment's sum wraps", answer, 0, answer == 5 && sum <= MAGNETAR_MAX_CYCLES);
+    answer = other("segment's sum wraps", answer, 0, answer == 5 && sum <= MAGNETAR_MAX_TOTAL_CYCLES);
     answer = other("segment has no 5 on a halted machine", answer, 0, answer == 5 && halted != 0);
     return other("segment's words wrap", answer, 0, answer == 6 && 17 * length <= records_len);
 }
@@ -118,7 +118,7 @@ uint64_t __wrap_magnetar_padding(const uint64_t *rows, size_t rows_len, uint64_t
     change("padding writes past the records", records + records_len, answer == 0);
     answer = other("padding has 3 before 2 with more than the most rows", answer, 3, answer == MAGNETAR_TOO_MANY_ROWS);
     answer = other("padding's bytes wrap", answer, 0, answer == 6 && 136 * length <= 8 * records_len);
-    return other("padding has a 5", answer, 5, answer == 0 && cycles > MAGNETAR_MAX_CYCLES);
+    return other("padding has a 5", answer, 5, answer == 0 && cycles > MAGNETAR_MAX_TOTAL_CYCLES);
 }
 
 uint64_t __wrap_magnetar_execute(const uint64_t *rows, size_t rows_len, const uint64_t *input, size_t input_len,

@@ -5,16 +5,17 @@ use crate::programs::{ordinary_word, program, register_shift};
 use crate::rounds::Tell;
 use crate::{Call, Executing, Expanding, Expansion, Judging, Running};
 use crate::{Lending, Modelled, Rng, Rom, ADDI};
-use magnetar_cpu::{Cursor, MAX_WORDS, RECORD_WORDS};
+use magnetar_cpu::{Cursor, MAX_PROGRAM_WORDS, RECORD_WORDS};
 
 /// The cycles of the calls that are accepted.
 const CYCLES: usize = 2;
 const ROOM: usize = RECORD_WORDS * CYCLES;
 
 pub fn run_limits(rng: &mut Rng, tell: Tell) {
-    let shifts = program(MAX_WORDS, rng, register_shift);
+    let shifts = program(MAX_PROGRAM_WORDS, rng, register_shift);
     expand(&shifts, rng, tell);
-    expand(&program(MAX_WORDS + 1, rng, ordinary_word), rng, tell);
+    let too_long = program(MAX_PROGRAM_WORDS + 1, rng, ordinary_word);
+    expand(&too_long, rng, tell);
     let mut rom = Rom::of(&shifts);
     on_rows(&rom, rng, tell);
     rom.rows.push(ADDI.into());

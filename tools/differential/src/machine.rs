@@ -8,9 +8,9 @@ use magnetar_reference::interp::{execute, pad_records, CycleRecord, ExecState, S
 use records::pack;
 
 /// The most that cycles and length of a segment may be together.
-pub const MOST_CYCLES: u128 = 1 << 62;
+pub const MAX_TOTAL_CYCLES: u64 = 1 << 62;
 /// The most cycles that an execution may have.
-pub const MOST_EXECUTED: u64 = 1 << 32;
+pub const MAX_EXECUTE_CYCLES: u64 = 1 << 32;
 
 /// The calls that move a cursor on.
 #[derive(Clone, Copy, Debug, PartialEq, Eq)]
@@ -52,7 +52,9 @@ fn first_rows(rows: &[u64]) -> Vec<u32> {
     words.collect()
 }
 
-/// The number of the first line of the table that is met, or 0.
+/// The number of the first line of the table that is met, or 0. The lines are
+/// `NO_ROWS`, `TOO_MANY_ROWS`, `NO_EXPANSION`, `OUTSIDE_ROWS`, `TOO_MANY_CYCLES`
+/// and `SHORT` of the header.
 fn lowest(table: [bool; 6]) -> u64 {
     let line = table.iter().position(|&met| met);
     line.map_or(0, |line| line as u64 + 1)
@@ -69,7 +71,7 @@ pub fn refusal(call: Call, rom: &Rom, image: &Image, length: u64, room: usize) -
         rows > 6_291_456,
         rom.program.is_none(),
         outside(Cursor::MICRO_PC) || outside(Cursor::NEXT_FETCH),
-        call == Call::Segment && sum > MOST_CYCLES,
+        call == Call::Segment && sum > MAX_TOTAL_CYCLES.into(),
         (room as u128) < 17 * u128::from(length),
     ])
 }
@@ -82,7 +84,7 @@ pub fn execute_refusal(rom: &Rom, max_cycles: u64, room: usize) -> u64 {
         rows > 6_291_456,
         rom.program.is_none(),
         false,
-        max_cycles > MOST_EXECUTED,
+        max_cycles > MAX_EXECUTE_CYCLES,
         (room as u128) < 17 * u128::from(max_cycles).next_power_of_two(),
     ])
 }

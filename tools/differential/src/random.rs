@@ -1,7 +1,7 @@
 //! Random ROMs, cursors, lengths and rooms, mostly near where an answer changes.
 
 use crate::damage::damage;
-use crate::machine::{image_of, MOST_CYCLES, MOST_EXECUTED};
+use crate::machine::{image_of, MAX_EXECUTE_CYCLES, MAX_TOTAL_CYCLES};
 use crate::programs::{any_word, known_word, live_word, program};
 use crate::{Rng, Rom};
 use magnetar_cpu::{Cursor, Image, RECORD_WORDS};
@@ -10,7 +10,6 @@ use magnetar_reference::interp::StreamCursor;
 const MOST_WORDS: usize = 30;
 /// The most cycles of a call that a buffer may have room for.
 const LONGEST: usize = 100;
-const MOST_SUM: u64 = MOST_CYCLES as u64;
 
 pub fn rom(rng: &mut Rng) -> Rom {
     let words = [any_word, known_word, live_word, live_word][rng.below(4)];
@@ -93,21 +92,21 @@ fn row(rows: usize, rng: &mut Rng) -> u64 {
 
 fn cycles(rng: &mut Rng) -> u64 {
     match rng.below(8) {
-        0 => MOST_SUM + rng.below(2) as u64,
+        0 => MAX_TOTAL_CYCLES + rng.below(2) as u64,
         1 => u64::MAX - rng.below(4) as u64,
-        2..4 => MOST_SUM - rng.below(2 * LONGEST) as u64,
+        2..4 => MAX_TOTAL_CYCLES - rng.below(2 * LONGEST) as u64,
         _ => rng.below(1000) as u64,
     }
 }
 
 /// The length of a call, mostly one that a buffer can have room for.
 pub fn length(image: &Image, rng: &mut Rng) -> u64 {
-    let left = MOST_SUM.wrapping_sub(image[Cursor::CYCLES]);
+    let left = MAX_TOTAL_CYCLES.wrapping_sub(image[Cursor::CYCLES]);
     let few = rng.below(4) as u64;
     match rng.below(24) {
         0 => left,
         1 => left.wrapping_add(1),
-        2 => MOST_SUM - 2 + few,
+        2 => MAX_TOTAL_CYCLES - 2 + few,
         3 => u64::MAX - few,
         // 17 times as much is a little over 2^64.
         4 => u64::MAX / 17 + 1 + few,
@@ -134,8 +133,8 @@ pub fn room(records: u64, rng: &mut Rng) -> usize {
 pub fn max_cycles(rng: &mut Rng) -> u64 {
     let few = rng.below(4) as u64;
     match rng.below(16) {
-        0 => MOST_EXECUTED - 1 + few,
-        1 => MOST_EXECUTED,
+        0 => MAX_EXECUTE_CYCLES - 1 + few,
+        1 => MAX_EXECUTE_CYCLES,
         2 => u64::MAX - few,
         3 => 1 << rng.below(64),
         4 => few,

@@ -5,7 +5,7 @@ use records::pack;
 
 /// What 01 accepts.
 pub const MOST_BYTES: usize = 4096;
-pub const MOST_CYCLES: u32 = 256;
+pub const MAX_TRACE_CYCLES: u32 = 256;
 
 const WORD: usize = 4;
 /// max_cycles and the number of input words.
@@ -53,7 +53,7 @@ impl Run {
         let halves = usize::try_from(2 * u64::from(header[1])).ok()?;
         let (input, program) = rest.split_at_checked(halves)?;
         let doubleword = |pair: &[u32]| u64::from(pair[0]) | u64::from(pair[1]) << 32;
-        (header[0] <= MOST_CYCLES).then(|| Run {
+        (header[0] <= MAX_TRACE_CYCLES).then(|| Run {
             max_cycles: header[0],
             input: input.chunks_exact(2).map(doubleword).collect(),
             program: program.to_vec(),

@@ -9,7 +9,7 @@ pub const MOST_INPUT: usize = 300;
 pub const MOST_CYCLES: u64 = 512;
 pub const MOST_ROOM: u64 = RECORD * MOST_CYCLES + 40;
 /// The largest sum of cycles and length.
-pub const MOST_SUM: u64 = 1 << 62;
+pub const MAX_TOTAL_CYCLES: u64 = 1 << 62;
 
 /// A program, its input, and calls made one after another on one cursor.
 pub struct CallList {
@@ -54,7 +54,7 @@ impl Call {
     pub fn code(&self, cycles: u64) -> u64 {
         let sum = u128::from(cycles) + u128::from(self.length);
         let needed = u128::from(RECORD) * u128::from(self.length);
-        if self.kind == CallKind::Segment && sum > u128::from(MOST_SUM) {
+        if self.kind == CallKind::Segment && sum > u128::from(MAX_TOTAL_CYCLES) {
             5
         } else if needed > u128::from(self.room) {
             6
@@ -77,11 +77,11 @@ mod tests {
         use CallKind::{Padding, Segment};
         assert_eq!(code(Segment, 2, 34, 0), 0);
         assert_eq!(code(Segment, 2, 33, 0), 6);
-        assert_eq!(code(Segment, 0, 0, MOST_SUM), 0);
-        assert_eq!(code(Segment, 1, 17, MOST_SUM), 5);
-        assert_eq!(code(Padding, 1, 17, MOST_SUM), 0);
-        assert_eq!(code(Segment, MOST_SUM, 17, 0), 6);
-        assert_eq!(code(Segment, MOST_SUM, 17, 1), 5);
+        assert_eq!(code(Segment, 0, 0, MAX_TOTAL_CYCLES), 0);
+        assert_eq!(code(Segment, 1, 17, MAX_TOTAL_CYCLES), 5);
+        assert_eq!(code(Padding, 1, 17, MAX_TOTAL_CYCLES), 0);
+        assert_eq!(code(Segment, MAX_TOTAL_CYCLES, 17, 0), 6);
+        assert_eq!(code(Segment, MAX_TOTAL_CYCLES, 17, 1), 5);
         // Neither the sum nor the product wraps.
         assert_eq!(code(Segment, u64::MAX, 17, 1), 5);
         assert_eq!(code(Padding, u64::MAX / 17 + 1, 17, 0), 6);

@@ -157,7 +157,7 @@ pub fn run_with(program: &OsStr, input: &[u8]) -> Result<Printed, String> {
 #[cfg(test)]
 mod tests {
     use super::*;
-    use crate::answer::{Run, MOST_BYTES, MOST_CYCLES};
+    use crate::answer::{Run, MAX_TRACE_CYCLES, MOST_BYTES};
     use std::fs;
     use std::path::Path;
 
@@ -214,7 +214,7 @@ mod tests {
         }),
         ("256 cycles are refused", |input, right| {
             match Run::read(input) {
-                Some(run) if run.max_cycles == MOST_CYCLES => "refused,0\n".to_string(),
+                Some(run) if run.max_cycles == MAX_TRACE_CYCLES => "refused,0\n".to_string(),
                 _ => right,
             }
         }),

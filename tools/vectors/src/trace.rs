@@ -7,7 +7,7 @@ mod edges;
 mod headers;
 mod random;
 
-use crate::answer::{Run, MOST_CYCLES};
+use crate::answer::{Run, MAX_TRACE_CYCLES};
 use crate::calllist::CallList;
 use crate::interp::{bounds, system};
 use crate::traceline::case;
@@ -42,7 +42,7 @@ fn fixed() -> Vec<Vec<u8>> {
 fn of_calls(list: &CallList) -> Run {
     let cycles: u64 = list.calls.iter().map(|call| call.length).sum();
     Run {
-        max_cycles: cycles.min(MOST_CYCLES.into()) as u32,
+        max_cycles: cycles.min(MAX_TRACE_CYCLES.into()) as u32,
         input: list.input.clone(),
         program: list.program.clone(),
     }

@@ -3,7 +3,7 @@
 use crate::guarded::Guarded;
 use crate::{shift_rows, with, ADDI, BLANK, ECALL, PRINTED, STAY};
 use magnetar_cpu::{execute, padding, records, segment, start, words};
-use magnetar_cpu::{Cursor, Refusal, MAX_CYCLES, MAX_ROWS, RECORD_WORDS};
+use magnetar_cpu::{Cursor, Refusal, MAX_EXECUTE_CYCLES, MAX_ROWS, RECORD_WORDS};
 
 /// All that is lent to an execution but its rows and its input.
 #[derive(Clone, Debug, PartialEq)]
@@ -168,12 +168,12 @@ fn the_words_of_a_record_buffer() {
 
 #[test]
 fn the_most_cycles() {
-    assert_eq!(MAX_CYCLES, 4_294_967_296);
+    assert_eq!(MAX_EXECUTE_CYCLES, 4_294_967_296);
     let rows = [ADDI, ECALL].map(u64::from);
     for room in [0, 17, 34, 17 * 1024] {
-        assert_eq!(answer(&rows, &[], MAX_CYCLES - 1, room), 6);
-        assert_eq!(answer(&rows, &[], MAX_CYCLES, room), 6);
-        assert_eq!(answer(&rows, &[], MAX_CYCLES + 1, room), 5);
+        assert_eq!(answer(&rows, &[], MAX_EXECUTE_CYCLES - 1, room), 6);
+        assert_eq!(answer(&rows, &[], MAX_EXECUTE_CYCLES, room), 6);
+        assert_eq!(answer(&rows, &[], MAX_EXECUTE_CYCLES + 1, room), 5);
         assert_eq!(answer(&rows, &[], u64::MAX, room), 5);
     }
 }
@@ -218,10 +218,10 @@ fn empty_slices() {
         execute(&rows, &[], 1, &mut []).err(),
     ];
     let wanted = [
-        Refusal::NoWords,
+        Refusal::NoRows,
         Refusal::NoExpansion,
         Refusal::TooManyCycles,
-        Refusal::ShortBuffer,
+        Refusal::Short,
     ];
     assert_eq!(refusals, wanted.map(Some));
     let mut cursor = BLANK;

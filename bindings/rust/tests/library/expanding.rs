@@ -3,7 +3,7 @@
 use crate::guarded::Guarded;
 use crate::{shift_rows, with, ADDI, ECALL, SLL};
 use magnetar_cpu::{expand, is_expansion, start, words};
-use magnetar_cpu::{Cursor, Refusal, MAX_ROWS, MAX_WORDS};
+use magnetar_cpu::{Cursor, Refusal, MAX_PROGRAM_WORDS, MAX_ROWS};
 
 /// All that is lent to an expansion.
 #[derive(Clone, Debug, PartialEq)]
@@ -74,21 +74,20 @@ fn short_buffers() {
 /// The longest program of the most rows, and one word more.
 #[test]
 fn the_longest_program() {
-    let mut program = vec![SLL; MAX_WORDS];
-    let mut lent = Lent::new(&program, MAX_ROWS, MAX_WORDS);
+    let mut program = vec![SLL; MAX_PROGRAM_WORDS];
+    let mut lent = Lent::new(&program, MAX_ROWS, MAX_PROGRAM_WORDS);
     assert_eq!(lent.expand(), 0);
     assert_eq!(lent.count, Guarded::new(&[6_291_456]));
-    assert_eq!(lent.rows, Guarded::new(&shift_rows().repeat(MAX_WORDS)));
-    let starts: Vec<u64> = (0..MAX_WORDS as u64).map(|word| 6 * word).collect();
+    let rows = shift_rows().repeat(MAX_PROGRAM_WORDS);
+    assert_eq!(lent.rows, Guarded::new(&rows));
+    let starts: Vec<u64> = (0..MAX_PROGRAM_WORDS as u64).map(|word| 6 * word).collect();
     assert_eq!(lent.starts, Guarded::new(&starts));
-    assert_eq!(Lent::new(&program, MAX_ROWS - 1, MAX_WORDS).refusal(), 6);
-    assert_eq!(Lent::new(&program, MAX_ROWS, MAX_WORDS - 1).refusal(), 6);
+    let refusal = |program: &[u32], rows, starts| Lent::new(program, rows, starts).refusal();
+    assert_eq!(refusal(&program, MAX_ROWS - 1, MAX_PROGRAM_WORDS), 6);
+    assert_eq!(refusal(&program, MAX_ROWS, MAX_PROGRAM_WORDS - 1), 6);
     program.push(ADDI);
-    assert_eq!(Lent::new(&program, 0, 0).refusal(), 2);
-    assert_eq!(
-        Lent::new(&program, MAX_ROWS + 1, MAX_WORDS + 1).refusal(),
-        2
-    );
+    assert_eq!(refusal(&program, 0, 0), 2);
+    assert_eq!(refusal(&program, MAX_ROWS + 1, MAX_PROGRAM_WORDS + 1), 2);
 }
 
 /// Slices of Rust that hold nothing point nowhere.
@@ -97,11 +96,11 @@ fn empty_slices() {
     let (mut rows, mut starts) = ([7; 2], [7; 1]);
     assert_eq!(
         expand(&[], &mut rows, &mut starts),
-        Err(Refusal::NoWords),
+        Err(Refusal::NoRows),
         "no program"
     );
-    assert_eq!(expand(&[], &mut [], &mut []), Err(Refusal::NoWords));
-    let short = Err(Refusal::ShortBuffer);
+    assert_eq!(expand(&[], &mut [], &mut []), Err(Refusal::NoRows));
+    let short = Err(Refusal::Short);
     assert_eq!(expand(&[ADDI], &mut [], &mut starts), short);
     assert_eq!(expand(&[ADDI], &mut rows, &mut []), short);
     assert_eq!((rows, starts), ([7; 2], [7; 1]));

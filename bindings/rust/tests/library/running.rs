@@ -3,7 +3,7 @@
 use crate::guarded::Guarded;
 use crate::{shift_rows, with, ADDI, BLANK, ECALL, PRINTED, STAY};
 use magnetar_cpu::{padding, segment, start, words};
-use magnetar_cpu::{Cursor, Image, Refusal, MAX_CYCLES_SUM, MAX_ROWS, RECORD_WORDS};
+use magnetar_cpu::{Cursor, Image, Refusal, MAX_ROWS, MAX_TOTAL_CYCLES, RECORD_WORDS};
 
 type Call = fn(&[u64], &mut Image, u64, &mut [u64]) -> u64;
 const CALLS: [Call; 2] = [words::segment, words::padding];
@@ -114,7 +114,7 @@ fn the_last_row() {
 
 #[test]
 fn the_sum_of_cycles() {
-    const MOST: u64 = MAX_CYCLES_SUM;
+    const MOST: u64 = MAX_TOTAL_CYCLES;
     assert_eq!(MOST, 4_611_686_018_427_387_904);
     let rows = [STAY.into()];
     // Cycles, length, and the answers of segment and padding call.
@@ -182,9 +182,9 @@ fn empty_slices() {
         let mut cursor = start(&[]);
         assert_eq!(call(&rows, &mut cursor, 0, &mut []), Ok(()));
         let refused = call(&rows, &mut cursor, 1, &mut []);
-        assert_eq!(refused, Err(Refusal::ShortBuffer));
+        assert_eq!(refused, Err(Refusal::Short));
         let refused = call(&[], &mut cursor, 0, &mut []);
-        assert_eq!(refused, Err(Refusal::NoWords));
+        assert_eq!(refused, Err(Refusal::NoRows));
         assert_eq!(*cursor.image(), BLANK);
     }
 }
@@ -197,16 +197,16 @@ fn the_refusals_of_the_safe_forms() {
         segment(rows, &mut cursor, 1, &mut [0; 16]).expect_err("a short buffer")
     };
     let too_many = vec![STAY.into(); MAX_ROWS + 1];
-    assert_eq!(refusal(&[], 0, 0), Refusal::NoWords);
-    assert_eq!(refusal(&too_many, 0, 0), Refusal::TooManyWords);
+    assert_eq!(refusal(&[], 0, 0), Refusal::NoRows);
+    assert_eq!(refusal(&too_many, 0, 0), Refusal::TooManyRows);
     assert_eq!(refusal(&[1 << 32], 0, 0), Refusal::NoExpansion);
     assert_eq!(refusal(&rows, Cursor::NEXT_FETCH, 1), Refusal::OutsideRows);
     assert_eq!(
         refusal(&rows, Cursor::CYCLES, 1 << 62),
         Refusal::TooManyCycles
     );
-    assert_eq!(refusal(&rows, 0, 0), Refusal::ShortBuffer);
-    assert!(Refusal::TooManyWords.to_string().contains("1048576"));
-    assert!(Refusal::TooManyWords.to_string().contains("6291456"));
+    assert_eq!(refusal(&rows, 0, 0), Refusal::Short);
+    assert!(Refusal::TooManyRows.to_string().contains("1048576"));
+    assert!(Refusal::TooManyRows.to_string().contains("6291456"));
     assert!(Refusal::TooManyCycles.to_string().contains("4294967296"));
 }

@@ -3,13 +3,13 @@
 
 use super::{change, OfRun, Variant};
 use crate::lending::image_mut;
-use crate::machine::MOST_CYCLES;
+use crate::machine::MAX_TOTAL_CYCLES;
 use crate::{Running, GUARDS};
 use magnetar_cpu::{Cursor, RECORD_WORDS};
 
 pub const WRONG: [Variant<OfRun>; 20] = [
     ("5 comes before 4", |before, _, answer| {
-        change(answer, 4, 5, sum(before) > MOST_CYCLES);
+        change(answer, 4, 5, sum(before) > MAX_TOTAL_CYCLES.into());
     }),
     ("6 comes before 5", |before, _, answer| {
         change(answer, 5, 6, words(before) > room(before));
@@ -18,10 +18,15 @@ pub const WRONG: [Variant<OfRun>; 20] = [
         change(answer, 3, 4, !is_inside(before, Cursor::MICRO_PC));
     }),
     ("a sum of 2^62 is refused", |before, _, answer| {
-        change(answer, 0, 5, sum(before) == MOST_CYCLES);
+        change(answer, 0, 5, sum(before) == MAX_TOTAL_CYCLES.into());
     }),
     ("the sum wraps", |before, _, answer| {
-        change(answer, 5, 0, wrapped(sum(before)) <= MOST_CYCLES);
+        change(
+            answer,
+            5,
+            0,
+            wrapped(sum(before)) <= MAX_TOTAL_CYCLES.into(),
+        );
     }),
     ("a halted machine has no sum", |before, _, answer| {
         change(answer, 5, 0, before.image()[Cursor::HALTED] != 0);
@@ -30,7 +35,7 @@ pub const WRONG: [Variant<OfRun>; 20] = [
         change(answer, 5, 0, before.length == 0);
     }),
     ("padding has a sum", |before, _, answer| {
-        change(answer, 0, 5, sum(before) > MOST_CYCLES);
+        change(answer, 0, 5, sum(before) > MAX_TOTAL_CYCLES.into());
     }),
     ("the words of the records wrap", |before, _, answer| {
         change(answer, 6, 0, wrapped(words(before)) <= room(before));

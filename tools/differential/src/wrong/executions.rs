@@ -2,21 +2,21 @@
 
 use super::{change, OfExecute, Variant};
 use crate::lending::image_mut;
-use crate::machine::{execute_reference, image_of, run_reference, MOST_EXECUTED};
+use crate::machine::{execute_reference, image_of, run_reference, MAX_EXECUTE_CYCLES};
 use crate::{Call, Executing, Lend, Lent, GUARDS};
 use magnetar_cpu::{Cursor, RECORD_WORDS};
 use magnetar_reference::interp::StreamCursor;
 
 pub const WRONG: [Variant<OfExecute>; 21] = [
     ("a limit of 2^32 is refused", |before, _, answer| {
-        change(answer, 6, 5, before.max_cycles == MOST_EXECUTED);
+        change(answer, 6, 5, before.max_cycles == MAX_EXECUTE_CYCLES);
     }),
     // No buffer has room for so many cycles.
     ("a higher limit is not refused", |_, _, answer| {
         change(answer, 5, 6, true);
     }),
     ("5 comes before 3", |before, _, answer| {
-        change(answer, 3, 5, before.max_cycles > MOST_EXECUTED);
+        change(answer, 3, 5, before.max_cycles > MAX_EXECUTE_CYCLES);
     }),
     (
         "the room is judged by the live count",

@@ -1,14 +1,16 @@
 //! Wrong limits of words and rows.
 
 use super::{change, OfExecute, OfExpand, OfRun, Variant};
-use magnetar_cpu::{MAX_ROWS, MAX_WORDS};
+use magnetar_cpu::{MAX_PROGRAM_WORDS, MAX_ROWS};
 
 pub const EXPANSIONS: [Variant<OfExpand>; 2] = [
     ("one word too many is accepted", |before, _, answer| {
-        change(answer, 2, 0, before.program.words().len() == MAX_WORDS + 1);
+        let words = before.program.words().len();
+        change(answer, 2, 0, words == MAX_PROGRAM_WORDS + 1);
     }),
     ("the most words are refused", |before, _, answer| {
-        change(answer, 0, 2, before.program.words().len() == MAX_WORDS);
+        let words = before.program.words().len();
+        change(answer, 0, 2, words == MAX_PROGRAM_WORDS);
     }),
 ];
 

@@ -2,7 +2,7 @@
 
 use differential::{check, Executing, Lend, Running, Starting};
 use differential::{program, register_shift, stage_word, Call, Rng, Rom, ADDI, ECALL, SLL};
-use magnetar_cpu::{Cursor, Image, MAX_ROWS, MAX_WORDS, RECORD_WORDS};
+use magnetar_cpu::{Cursor, Image, MAX_PROGRAM_WORDS, MAX_ROWS, RECORD_WORDS};
 
 const CALLS: [Call; 2] = [Call::Segment, Call::Padding];
 const BLANK: Image = [0; Cursor::WORDS];
@@ -62,7 +62,7 @@ fn the_last_row_of_few() {
 /// One test, because each of these ROMs takes half a gigabyte.
 #[test]
 fn the_most_rows_and_one_more() {
-    let longest = program(MAX_WORDS, &mut Rng::new(9), register_shift);
+    let longest = program(MAX_PROGRAM_WORDS, &mut Rng::new(9), register_shift);
     let mut rows = check_longest(Rom::of(&longest));
     rows.push(ADDI.into());
     check_too_many(&Rom::new(rows));

@@ -4,7 +4,7 @@ use differential::{check, Expanding, Judging, Lend};
 use differential::{
     ordinary_word, program, register_shift, stage_word, Expansion, Rng, ADDI, SLL, STAGES,
 };
-use magnetar_cpu::{expand, Refusal, MAX_WORDS};
+use magnetar_cpu::{expand, Refusal, MAX_PROGRAM_WORDS};
 
 /// The answer, everything compared, for buffers of these lengths.
 fn answer(program: &[u32], expansion: &Expansion, rows: usize, starts: usize) -> u64 {
@@ -48,13 +48,13 @@ fn short_programs() {
 
 #[test]
 fn the_longest_program_of_ordinary_words() {
-    let program = program(MAX_WORDS, &mut Rng::new(4), ordinary_word);
+    let program = program(MAX_PROGRAM_WORDS, &mut Rng::new(4), ordinary_word);
     check_edges(&program, 1_048_576);
 }
 
 #[test]
 fn the_longest_program_of_register_shifts() {
-    let program = program(MAX_WORDS, &mut Rng::new(5), register_shift);
+    let program = program(MAX_PROGRAM_WORDS, &mut Rng::new(5), register_shift);
     check_edges(&program, 6_291_456);
 }
 
@@ -68,7 +68,7 @@ fn no_words() {
 
 #[test]
 fn one_word_too_many() {
-    let program = program(MAX_WORDS + 1, &mut Rng::new(6), ordinary_word);
+    let program = program(MAX_PROGRAM_WORDS + 1, &mut Rng::new(6), ordinary_word);
     let expansion = Expansion::of(&program);
     let words = program.len();
     for (rows, starts) in [(words, words), (0, 0), (words - 1, words)] {
@@ -79,11 +79,11 @@ fn one_word_too_many() {
 /// Rows may be the expansion of a program that is itself too long.
 #[test]
 fn rows_have_no_limit() {
-    let mut rows = vec![u64::from(ADDI); STAGES * MAX_WORDS + 1];
+    let mut rows = vec![u64::from(ADDI); STAGES * MAX_PROGRAM_WORDS + 1];
     assert!(verdict(&rows));
     rows.push(stage_word(ADDI, 1));
     assert!(!verdict(&rows));
-    let mut rows = Expansion::of(&vec![SLL; MAX_WORDS + 1]).rows;
+    let mut rows = Expansion::of(&vec![SLL; MAX_PROGRAM_WORDS + 1]).rows;
     assert!(verdict(&rows));
     rows.pop();
     assert!(!verdict(&rows));
@@ -95,10 +95,10 @@ fn the_safe_form_gives_counts_and_refusals() {
     let program = [ADDI, SLL, ADDI];
     assert_eq!(expand(&program, &mut rows, &mut starts), Ok(8));
     assert_eq!(starts, [0, 1, 7]);
-    assert_eq!(expand(&[], &mut [], &mut []), Err(Refusal::NoWords));
+    assert_eq!(expand(&[], &mut [], &mut []), Err(Refusal::NoRows));
     let refused = expand(&program, &mut rows[1..], &mut starts);
-    assert_eq!(refused, Err(Refusal::ShortBuffer));
-    let long = vec![ADDI; MAX_WORDS + 1];
-    assert_eq!(expand(&long, &mut [], &mut []), Err(Refusal::TooManyWords));
-    assert!(Refusal::TooManyWords.to_string().contains("1048576"));
+    assert_eq!(refused, Err(Refusal::Short));
+    let long = vec![ADDI; MAX_PROGRAM_WORDS + 1];
+    assert_eq!(expand(&long, &mut [], &mut []), Err(Refusal::TooManyRows));
+    assert!(Refusal::TooManyRows.to_string().contains("1048576"));
 }

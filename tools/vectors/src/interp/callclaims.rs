@@ -5,7 +5,7 @@ use super::{all, listing};
 use crate::callline::CALLS;
 use crate::calllist::CallKind::{Padding, Segment};
 use crate::calllist::{
-    Call, MOST_CYCLES, MOST_INPUT, MOST_ROOM, MOST_ROWS, MOST_SUM, MOST_WORDS, RECORD,
+    Call, MAX_TOTAL_CYCLES, MOST_CYCLES, MOST_INPUT, MOST_ROOM, MOST_ROWS, MOST_WORDS, RECORD,
 };
 use crate::list::fed_lines;
 use std::collections::HashSet;
@@ -179,10 +179,10 @@ fn lengths_are_huge() {
             found.map(|told| told.code).collect()
         };
         let over = if kind == Segment { 5 } else { 6 };
-        for length in [MOST_SUM + 1, u64::MAX, u64::MAX - 1] {
+        for length in [MAX_TOTAL_CYCLES + 1, u64::MAX, u64::MAX - 1] {
             assert_eq!(codes(length), HashSet::from([over]), "{length:x}");
         }
-        assert!(codes(MOST_SUM).contains(&6));
+        assert!(codes(MAX_TOTAL_CYCLES).contains(&6));
         // A product that wraps would fit.
         let fits = |told: &ToldCall| {
             let Call { length, room, .. } = told.call;
@@ -199,7 +199,9 @@ fn lengths_are_huge() {
         for (over, code) in [(0, 6), (1, 5)] {
             let bound = |told: &ToldCall| {
                 let asked = told.cycles() > 0 && told.is_halted() == halted;
-                asked && told.code == code && told.call.length == MOST_SUM + over - told.cycles()
+                asked
+                    && told.code == code
+                    && told.call.length == MAX_TOTAL_CYCLES + over - told.cycles()
             };
             assert!(count(Segment, bound) >= 1, "{halted} {over}");
         }

@@ -1,7 +1,7 @@
 //! Random programs, inputs and calls.
 
 use crate::calllist::CallKind::{Padding, Segment};
-use crate::calllist::{Call, CallList, MOST_SUM, RECORD};
+use crate::calllist::{Call, CallList, MAX_TOTAL_CYCLES, RECORD};
 use crate::mixed::program_and_input;
 use rng::Rng;
 
@@ -35,7 +35,7 @@ fn call(rng: &mut Rng) -> Call {
     match rng.below(8) {
         0 => Call {
             kind,
-            length: rng.doubleword() % (2 * MOST_SUM),
+            length: rng.doubleword() % (2 * MAX_TOTAL_CYCLES),
             room: full,
         },
         1 => Call {

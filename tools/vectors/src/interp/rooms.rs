@@ -2,7 +2,7 @@
 
 use crate::asm::{addi, jal, ld, store};
 use crate::calllist::CallKind::{self, Padding, Segment};
-use crate::calllist::{padding, segment, Call, CallList, MOST_ROOM, MOST_SUM, RECORD};
+use crate::calllist::{padding, segment, Call, CallList, MAX_TOTAL_CYCLES, MOST_ROOM, RECORD};
 use crate::words::ECALL;
 
 const KINDS: [CallKind; 2] = [Segment, Padding];
@@ -14,9 +14,9 @@ const HUGE: [u64; 12] = [
     1 << 32,
     WRAPPING,
     WRAPPING + 1,
-    MOST_SUM - 1,
-    MOST_SUM,
-    MOST_SUM + 1,
+    MAX_TOTAL_CYCLES - 1,
+    MAX_TOTAL_CYCLES,
+    MAX_TOTAL_CYCLES + 1,
     1 << 63,
     u64::MAX - RECORD,
     u64::MAX - 2,
@@ -105,7 +105,7 @@ fn huge(kind: CallKind, room: u64) -> Vec<Call> {
 /// cycles is the largest that is accepted, and one more. Padding does not count.
 fn at_most_sum(cycles: u64, counted: u64) -> Vec<Call> {
     let mut calls = vec![segment(cycles), padding(2)];
-    for length in [MOST_SUM - counted, MOST_SUM - counted + 1] {
+    for length in [MAX_TOTAL_CYCLES - counted, MAX_TOTAL_CYCLES - counted + 1] {
         calls.extend(KINDS.map(|kind| call(kind, length, 51)));
     }
     calls

@@ -1,7 +1,7 @@
 //! What is in the list of traces, and what random inputs are made of.
 
 use super::{listing, random};
-use crate::answer::{answer, Run, MOST_BYTES, MOST_CYCLES};
+use crate::answer::{answer, Run, MAX_TRACE_CYCLES, MOST_BYTES};
 use crate::forms::{Form, FORMS};
 use crate::formwords::operands;
 use crate::traceline::TRACES;
@@ -160,7 +160,7 @@ fn the_bounds_of_what_is_accepted() {
     for inputs in [&LISTED, &RANDOM] {
         let any = |met: fn(&Run) -> bool| accepted(inputs).any(|run| met(&run));
         assert!(any(|run| run.bytes().len() == MOST_BYTES));
-        assert!(any(|run| run.max_cycles == MOST_CYCLES));
+        assert!(any(|run| run.max_cycles == MAX_TRACE_CYCLES));
         assert!(any(|run| run.max_cycles == 0));
         for count in [0, 1, 256, 257, 510] {
             let counted = |run: Run| run.input.len() == count;
@@ -174,7 +174,7 @@ fn the_bounds_of_what_is_accepted() {
 fn the_reasons_for_refused_0() {
     let whole =
         |input: &[u8]| input.len().is_multiple_of(4) && (8..=MOST_BYTES).contains(&input.len());
-    let few = |input: &[u8]| header(input, 0) <= Some(MOST_CYCLES.into());
+    let few = |input: &[u8]| header(input, 0) <= Some(MAX_TRACE_CYCLES.into());
     let needed = |input: &[u8]| 8 * (1 + header(input, 1).unwrap_or(0));
     let enough = |input: &[u8]| needed(input) <= input.len() as u64;
     // With a count that is doubled in 32 bits there would be enough.
@@ -193,7 +193,7 @@ fn the_reasons_for_refused_0() {
         assert!(any(&|input| whole(input) && few(input) && !enough(input)));
         let wrapped = |input: &[u8]| whole(input) && few(input) && !enough(input) && wraps(input);
         assert!(any(&wrapped));
-        let next = u64::from(MOST_CYCLES) + 1;
+        let next = u64::from(MAX_TRACE_CYCLES) + 1;
         assert!(any(&|input| header(input, 0) == Some(next)));
         assert!(any(&|input| needed(input) == input.len() as u64 + 4));
     }

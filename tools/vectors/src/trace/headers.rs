@@ -1,7 +1,7 @@
 //! Inputs at the bounds of what is refused: lengths, counts of cycles, counts of
 //! input words, empty programs.
 
-use crate::answer::{little_endian, MOST_BYTES, MOST_CYCLES};
+use crate::answer::{little_endian, MAX_TRACE_CYCLES, MOST_BYTES};
 use crate::asm::{addi, ld};
 
 /// Short inputs that are not whole words, or are cut off in the header.
@@ -9,10 +9,10 @@ const SHORT: [usize; 12] = [0, 1, 2, 3, 4, 5, 7, 8, 9, 10, 11, 12];
 const LONG: [usize; 6] = [4092, 4095, 4096, 4097, 4100, 4104];
 /// The second is 8 with its bytes in the other order.
 const MANY_CYCLES: [u32; 8] = [
-    MOST_CYCLES + 1,
+    MAX_TRACE_CYCLES + 1,
     0x0800_0000,
-    MOST_CYCLES + 2,
-    2 * MOST_CYCLES,
+    MAX_TRACE_CYCLES + 2,
+    2 * MAX_TRACE_CYCLES,
     1 << 16,
     1 << 31,
     (1 << 31) + 8,
@@ -67,12 +67,12 @@ fn counted(header: &[u32; 2]) -> Vec<u8> {
 fn empty() -> Vec<Vec<u8>> {
     let inputs: [&[u32]; 8] = [
         &[0, 0],
-        &[MOST_CYCLES, 0],
-        &[MOST_CYCLES + 1, 0],
+        &[MAX_TRACE_CYCLES, 0],
+        &[MAX_TRACE_CYCLES + 1, 0],
         &[0, 1],
         &[0, 1, 5],
         &[0, 1, 5, 6],
-        &[MOST_CYCLES + 1, 1, 5, 6],
+        &[MAX_TRACE_CYCLES + 1, 1, 5, 6],
         &[0, 1 << 31],
     ];
     inputs.map(little_endian).into()

@@ -1,7 +1,7 @@
 //! Random inputs of the program `trace`, from a seed: runs of all kinds of
 //! programs, and such inputs with a fault.
 
-use crate::answer::{little_endian, Run, MOST_BYTES, MOST_CYCLES};
+use crate::answer::{little_endian, Run, MAX_TRACE_CYCLES, MOST_BYTES};
 use crate::asm::{addi, branch, jal, ld};
 use crate::formwords;
 use crate::interp::{loads, system::HALTING};
@@ -53,7 +53,7 @@ fn run(rng: &mut Rng) -> Run {
 
 /// Often a power of two or next to one.
 fn max_cycles(rng: &mut Rng) -> u32 {
-    let most = MOST_CYCLES as usize;
+    let most = MAX_TRACE_CYCLES as usize;
     let cycles = match rng.below(4) {
         0 => ((1 << rng.below(9)) + rng.below(3) - 1).min(most),
         1 => rng.below(most + 1),
@@ -181,10 +181,10 @@ fn put(bytes: &mut [u8], place: usize, word: u32) {
 
 fn many_cycles(rng: &mut Rng) -> u32 {
     match rng.below(4) {
-        0 => MOST_CYCLES + 1,
+        0 => MAX_TRACE_CYCLES + 1,
         // One bit above those of the largest.
         1 => 1 << (9 + rng.below(23)) | rng.below(257) as u32,
-        2 => MOST_CYCLES + 1 + rng.below(256) as u32,
+        2 => MAX_TRACE_CYCLES + 1 + rng.below(256) as u32,
         _ => rng.word(),
     }
 }
