@@ -15,12 +15,17 @@ use crate::Outcome;
 use crate::RECORD_WORDS;
 use crate::Refusal;
 use crate::run::next_power_of_two;
+use expand::MicroPc;
 
 // Refusal 4.
-fn is_outside(pc: usize, fetch: usize, count: usize) -> bool
-    ensures { λ r. ⌜ r ≡ not (ltb pc count && ltb fetch count) ⌝ }
+fn is_outside(pc: MicroPc, fetch: MicroPc, count: usize) -> bool
+    ensures { λ r. ⌜ r ≡ not (ltb (pc .0) count && ltb (fetch .0) count) ⌝ }
 {
-    if pc < count { !(fetch < count) } else { true }
+    if pc.0 < count {
+        !(fetch.0 < count)
+    } else {
+        true
+    }
 }
 
 // Refusal 5. The sum is not made: both numbers are any u64.
@@ -69,7 +74,9 @@ pub(crate) fn judge_cycles(
 ) -> Outcome
     ensures { λ r. ⌜ outcomeNumber r ≡ lowest (callLines count c «is_segment» n room) ⌝ }
 {
-    if is_outside(c.micro_pc.0, c.next_fetch.0, count) {
+    let pc = c.micro_pc;
+    let fetch = c.next_fetch;
+    if is_outside(pc, fetch, count) {
         return Outcome::Refused(Refusal::OutsideRows);
     }
     if is_too_long(is_segment, c.cycles, n) {

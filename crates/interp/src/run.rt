@@ -43,7 +43,8 @@ fn is_over(halted: bool, taken: usize, limit: usize) -> bool
     if halted { true } else { taken == limit }
 }
 
-fn fetch_row(over: bool, fetch: usize, pc: usize) -> usize
+// The row of a turn: the next live one, or where padding stays.
+fn fetch_row(over: bool, fetch: MicroPc, pc: MicroPc) -> MicroPc
     ensures { λ r. ⌜ r ≡ cond over fetch pc ⌝ }
 {
     if over { fetch } else { pc }
@@ -82,7 +83,9 @@ fn run_live(
     let mut i: usize = 0;
     loop {
         let over = is_over(core.halted, i, limit);
-        let at = fetch_row(over, core.next_fetch.0, core.micro_pc.0);
+        let fetch = core.next_fetch;
+        let pc = core.micro_pc;
+        let at = fetch_row(over, fetch, pc).0;
         let row = expand::rom_row(rows[at]);
         if over {
             return Stopped {

@@ -80,7 +80,7 @@ redirect-pos zero = omega arith
 redirect-pos (suc rd) = rw (ne-eqb (suc rd) 0 (omega arith)) (omega arith)
 
 -- a row that is picked from two is inside if both are
-next-of : (b : Bool) {x y : MicroPc} {n : ℕ} → x .0 < n → y .0 < n → cond b x y .0 < n
+pub next-of : (b : Bool) {x y : MicroPc} {n : ℕ} → x .0 < n → y .0 < n → cond b x y .0 < n
 next-of true p q = p
 next-of false p q = q
 

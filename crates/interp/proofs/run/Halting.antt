@@ -177,10 +177,6 @@ pub record Live (rows : List ℕ) (n : ℕ) (c₀ c : Cursor) (i : ℕ) : Type 0
   pub few : i < n → c .cycles + (n - i) ≤ 2 ^ 62
   pub counted : liveCount rows n c₀ ≡ i + liveCount rows (n - i) c
 
-pub fetch-lt : (b : Bool) (x y n : ℕ) → x < n → y < n → cond b x y < n
-fetch-lt true x y n p q = p
-fetch-lt false x y n p q = q
-
 -- the live cycles are not over
 pub not-over : (halted : Bool) (i n : ℕ) → cond halted true (eqb i n) ≡ false → i ≤ n → (halted ≡ false) × (i < n)
 not-over true i n e le = absurd (false≢true (sym e))

@@ -4,7 +4,7 @@ use Rattle.interp.proofs.refusals.is_outside.Statement.{statement}
 use Rattle.interp.proofs.refusals.is_outside.Tie as tie
 
 returns : tie.Need-returns
-returns c = simp (lt-ltb _ _ (c .if1 .taken))
+returns c = simp (lt-ltb _ _ (c .before .if1 .taken))
 
 returns-2 : tie.Need-returns-2
 returns-2 c = simp (le-ltb _ _ (c .if1 .left))
