@@ -13,11 +13,7 @@ use Rattle.interp.specs.Machine.{loaded, startOf}
 use Rattle.interp.specs.Cycle.{Step, scratched, regsAfter, stores, ramAfter, commit, stepAt, live, frozenAt, padding, cycle}
 use Rattle.interp.specs.Calls.{end, Call, segment, padded, amount, turn, refusalOf, settled, answerOf}
 use Rattle.interp.specs.Execute.{executed, answered, executeOf}
-
--- 64 registers and 256 words of RAM
-pub record Sized (c : Cursor) : Type 0 where
-  pub regs : length (c .regs) ≡ 64
-  pub ram : length (c .ram) ≡ 256
+use Rattle.interp.specs.Laws.{Sized}
 
 -- ---- a cycle
 

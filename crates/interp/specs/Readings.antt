@@ -1,4 +1,4 @@
--- What is claimed of the values beyond their text. The record is the contract of a function of src/lib.rt.
+-- What is claimed of the values beyond their text. The record is the contract of `signed_readings` of src/values.rt.
 -- Assumes nothing: these are definitions.
 use Prim.Native.Nat.{ℕ, zero, suc, _%_, _^_, _<_}
 use mathlib.Core.Path.{_≡_}
@@ -22,7 +22,7 @@ unfoldable pub stagesValue : ℕ → ℕ → ℕ → ℕ → ℕ → ℕ
 stagesValue zero funct3 raw a b = stageValue 0 funct3 raw a b
 stagesValue (suc k) funct3 raw a b = stageValue (suc k) funct3 raw (stagesValue k funct3 raw a b) b
 
--- the three forms of interp.rs that read a word as i64, said on integers; and the six stages in turn
+-- the three forms of interp.rs that read a word as i64, said on integers; and the stages in turn
 pub record Signed : Type 0 where
   -- the order of the signed numbers
   pub order : (a b : ℕ) → a < 2 ^ 64 → b < 2 ^ 64 → less a b ≡ ltZ (signedWord a) (signedWord b)
@@ -30,5 +30,5 @@ pub record Signed : Type 0 where
   pub floor : (x k : ℕ) → x < 2 ^ 64 → signedWord (signedRight x k) ≡ shrZ (signedWord x) (2 ^ k)
   -- the signed number by 4, rounded towards zero
   pub quarter : (mp imm : ℕ) → mp < 2 ^ 61 → imm < 2 ^ 64 → quarterOn mp imm ≡ clamp (pos mp +ℤ quotZ (signedWord imm) (pos 4))
-  -- stages 0 to 5 are one shift
-  pub six-stages : (funct3 raw a b : ℕ) → stagesValue 5 funct3 raw a b ≡ shift funct3 raw a (b % 64)
+  -- stages 0 to k are one shift by b's low k + 1 bits, so that stages 0 to 5 shift by b mod 64
+  pub stages : (k funct3 raw a b : ℕ) → k < 6 → stagesValue k funct3 raw a b ≡ shift funct3 raw a (b % 2 ^ suc k)

@@ -18,6 +18,7 @@ pub use values::signed_readings;
 ghost use mathlib.Core.Path.{_≡_};
 ghost use Rattle.interp.specs.Machine.{startOf};
 ghost use Rattle.interp.specs.Calls.{refusalNumber};
+ghost use Rattle.interp.specs.Laws.{Laws};
 use expand::MicroPc;
 
 // The registers: 32 of the architecture, and as many cells again, of which the first takes what is written to x0.
@@ -179,3 +180,8 @@ pub struct Execution {
     pub record_count: u64,
     pub cursor: Cursor,
 }
+
+// What the crates above use of cycles and calls (specs/Laws.antt). The function does nothing; its contract is the claim.
+pub fn cycle_laws()
+    ensures { λ r. ⌜ Laws ⌝ }
+{}

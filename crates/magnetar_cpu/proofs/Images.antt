@@ -7,13 +7,9 @@ use native.Mathlib.Nat.{zero-add}
 use native.Mathlib.Numerals.{add-one}
 use native.Mathlib.Omega.{arith}
 use mir.Val.{boolByte}
-use lib.Dec.{eqb}
 use lib.ListN.{length, take, drop, getD, set, length-drop, drop-of-length-le}
 use lib.Seq.{sets, sets-eq, take-all, getD-drop, paste, paste-suc, length-paste, take-paste}
 use Rattle.interp.specs.declared.Cursor.{Cursor}
-use Rattle.interp.specs.declared.Refusal.{Refusal}
-use Rattle.interp.specs.declared.Refusal.the-variants.{NoRows, TooManyRows, NoExpansion, OutsideRows, TooManyCycles, Short}
-use Rattle.interp.specs.Calls.{numberOf}
 use Rattle.magnetar_cpu.specs.Words.{wordOf}
 use Rattle.magnetar_cpu.specs.Image.{imageOf}
 
@@ -74,12 +70,3 @@ image-written c d hr hs hd =
     let vs : ℕ → List ℕ = λ w. c .«micro_pc» .0 ∷ c .cycles ∷ w ∷ c .output ∷ c .«next_fetch» .0 ∷ [] in
     written d (c .regs) (c .ram) (vs (boolByte (c .halted))) 64 256 hr hs hd
     ∙ ap (λ (w : ℕ). c .regs ++ c .ram ++ vs w) (cast (c .halted))
-
--- no refusal has the number of an accepted call
-pub never-zero : (why : Refusal) → eqb (numberOf why) 0 ≡ false
-never-zero NoRows = refl
-never-zero TooManyRows = refl
-never-zero NoExpansion = refl
-never-zero OutsideRows = refl
-never-zero TooManyCycles = refl
-never-zero Short = refl

@@ -11,7 +11,8 @@ use Rattle.interp.specs.declared.Cursor.{Cursor}
 use Rattle.interp.specs.Machine.{at, startOf}
 use Rattle.interp.specs.Calls.{Call, refusalOf, settled, answerOf, added, last, log}
 use Rattle.interp.specs.Execute.{executeOf}
-use Rattle.interp.proofs.Sizes.{Sized, start-sized, answer-sized, execute-sized}
+use Rattle.interp.specs.Laws.{Sized}
+use Rattle.interp.proofs.Above.{laws}
 use Rattle.magnetar_cpu.specs.Words.{wordOf}
 use Rattle.magnetar_cpu.specs.Image.{imageWords, cursorOf, imageOf, imageAfter}
 use Rattle.magnetar_cpu.specs.Claims.{lastImage, imageLog, Kept, ImageLaws}
@@ -102,7 +103,7 @@ settled-left (suc number) rows image k h s = rw (eqb·suc-zero number) (record {
 left : (rows image : List ℕ) (k : Call) → length image ≡ imageWords
     → Left (imageAfter (answerOf rows (cursorOf image) k) image) (answerOf rows (cursorOf image) k .cursor)
 left rows image k h =
-    let s = answer-sized rows (cursorOf image) k (image-sized image h) in
+    let s = laws .answer-sized rows (cursorOf image) k (image-sized image h) in
     unfold answerOf in settled-left (refusalOf rows (cursorOf image) k) rows image k h s
 
 cursors : (rows image : List ℕ) (ks : List Call) → length image ≡ imageWords
@@ -126,11 +127,11 @@ logs rows image (k ∷ ks) h =
 
 pub image-laws : ImageLaws
 image-laws =
-    let start : (input : List ℕ) → Kept (startOf input) = λ input. kept-sized (startOf input) (start-sized input) in
+    let start : (input : List ℕ) → Kept (startOf input) = λ input. kept-sized (startOf input) (laws .start-sized input) in
     record {
       kept = λ c regs ram. kept-sized c (record { regs = regs; ram = ram });
       start = start;
-      executed = λ rows input max buffer. kept-sized _ (execute-sized rows input max buffer);
+      executed = λ rows input max buffer. kept-sized _ (laws .execute-sized rows input max buffer);
       written-back = written-back;
       cursors = cursors;
       logs = logs;

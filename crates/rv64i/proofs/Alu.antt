@@ -1,20 +1,17 @@
 -- The value of an ALU row is the manual's, for each instruction. Assumes nothing.
 use mathlib.Core.Path.{_≡_, ap₂, sym, _∙_}
-use mathlib.Core.Bool.{false}
 use mathlib.Core.Logic.{⊎-elim}
 use Prim.Native.Nat.{ℕ, _+_, _*_, _/_, _%_, _^_, _<_, _≤_}
 use native.Mathlib.Omega.{arith}
-use lib.Pow.{mod-mod-pow, shr-shr}
+use lib.Pow.{mod-mod-pow, mod-pow-add, shr-shr}
 use borrow.Author.Tests.{ne-eqb}
 use Rattle.decode.specs.Manual as manual
 use Rattle.decode.specs.Manual.{Major, number, bits, signed, I-immediate, Word}
-use Rattle.decode.proofs.Agrees.{signed-low, signed-high, cut}
+use Rattle.decode.proofs.Agrees.{signed-low, signed-high}
 use Rattle.values.specs.Values.{secondOperand, sum, shiftAt, aluValue}
-use Rattle.values.proofs.Words.{lt-or-ge}
-use Rattle.interp.specs.Cycle.{stores}
 use Rattle.rv64i.specs.Manual.{low, Immediate, ADDI, SLTIU, XORI, ORI, ANDI, immediate, Operation, ADD, SUB, SLTU, XOR, OR, AND, operation, ConstantShift, SLLI, SRLI, SRAI, constant-shift, shamt, Encoded7, IsImmediate, IsConstantShift, IsOperation, i-immediate}
 use Rattle.rv64i.specs.Agreement.{most}
-use Rattle.rv64i.proofs.Words.{minus-is, signed-right-is}
+use Rattle.rv64i.proofs.Words.{lt-or-ge, minus-is, signed-right-is}
 
 -- opcode number and funct7, as the values look at them
 pub number-of : {m : Major} {inst : ℕ} → Word m inst → inst % 2 ^ 7 ≡ number m
@@ -22,10 +19,6 @@ number-of w = omega (arith, w .has)
 
 pub funct7-of : {upper f inst : ℕ} → Encoded7 upper f inst → inst / 2 ^ 25 ≡ upper
 funct7-of e = omega (arith, e .encoded .word .fits, e .funct7)
-
--- flags below is_store
-pub quiet : (flags : ℕ) → flags < 0x80 → stores flags ≡ false
-quiet flags h = let e : flags / 0x80 ≡ 0 = omega arith in rw e
 
 -- with an immediate
 pub immediate-agrees : (i : Immediate) (inst a b imm : ℕ) → IsImmediate i inst
@@ -57,6 +50,10 @@ low-twelve v h = ⊎-elim (λ l. rw (signed-low 12 v l) (omega arith)) (λ l. rw
 
 low-six : (t h q s : ℕ) → q < 2 ^ 4 → s < 2 ^ 1 → (t * 2 ^ 11 + h * 2 ^ 5 + q * 2 ^ 1 + s) % 2 ^ 6 ≡ h % 2 ^ 1 * 2 ^ 5 + (q * 2 ^ 1 + s)
 low-six t h q s hq hs = omega arith
+
+-- j + i bits of a word are j bits above i bits
+cut : (w k j i : ℕ) → w / 2 ^ k % 2 ^ (j + i) ≡ w / 2 ^ (k + i) % 2 ^ j * 2 ^ i + w / 2 ^ k % 2 ^ i
+cut w k j i = mod-pow-add (w / 2 ^ k) j i ∙ rw (shr-shr w k i)
 
 -- the amount is the low six bits of the immediate
 amount-of : (inst : ℕ) → low (I-immediate inst) % 2 ^ 6 ≡ shamt inst

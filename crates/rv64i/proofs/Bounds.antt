@@ -1,5 +1,5 @@
 -- Each value is a word where its operands are. Assumes nothing.
-use mathlib.Core.Bool.{Bool, true, false, _&&_}
+use mathlib.Core.Bool.{Bool, true, false, cond, _&&_}
 use Prim.Native.Nat.{ℕ, _+_, _-_, _*_, _%_, _^_, _<_, min}
 use mathlib.Core.Path.{_≡_}
 use native.Mathlib.Nat.{mod-lt, lt-of-le-of-lt}
@@ -9,7 +9,10 @@ use lib.Bits.{and-lt, or-lt, xor-lt}
 use lib.Dec.{eqb, ltb}
 use lib.Pow.{pow-pos, pow-add, shr-lt, shr-le}
 use Rattle.values.specs.Values.{signedRight, alternate, registerForm, secondOperand, shiftAt, sum, aluValue, amount, stageValue, loadValue, storeWidth, merge, storeValue, upperValue}
-use Rattle.interp.proofs.Laws.{cond-lt}
+
+pub cond-lt : (b : Bool) {x y n : ℕ} → x < n → y < n → cond b x y < n
+cond-lt true p q = p
+cond-lt false p q = q
 
 pub signed-right-lt : (x k : ℕ) → x < 2 ^ 64 → signedRight x k < 2 ^ 64
 unfolding signedRight

@@ -20,14 +20,14 @@ use Rattle.interp.specs.declared.Cursor.{Cursor}
 use Rattle.interp.specs.declared.CycleRecord.{CycleRecord}
 use Rattle.interp.specs.Machine.{at, cell}
 use Rattle.interp.specs.Cycle.{aluArm, loadFlags, loadArm, storeArm, branchFlags, branchArm, upperArm, armOf, recordOf, scratched, regsAfter, stores as storing, ramAfter, commit, stepAt}
-use Rattle.interp.proofs.Laws.{alu-flags-lt}
+use Rattle.interp.proofs.Above.{laws}
 use Rattle.rv64i.specs.Manual.{low, sum, difference, Immediate, immediate, IsImmediate, immediate-value, ConstantShift, constant-shift, IsConstantShift, constant-shift-value, shamt, Operation, ADD, SUB, SLTU, XOR, OR, AND, operation, IsOperation, operation-value, IsLui, lui-value, Load, load, IsLoad, load-value, load-address, Store, store, IsStore, stored, store-address, Branch, BEQ, BNE, BLT, BGE, BLTU, BGEU, branch, IsBranch, taken, x-rs1, x-rs2, i-immediate, s-immediate}
 use Rattle.rv64i.specs.Agreement.{bytes, stateOf, after, shown, takenFlag, At, Accesses, Operates, Computes, Places, Loads, Stores, Branches, most, InWord}
 use Rattle.rv64i.proofs.Words.{minus-is, less-is, not-ltb, not-ltZ}
 use Rattle.rv64i.proofs.Cells.{state, registers, past-31}
 use Rattle.rv64i.proofs.Rows.{fields, decoded-as, immediate-is, no-shift, op-shift}
 use Rattle.rv64i.proofs.Steps.{Took, took, operand, showing, at-next, done}
-use Rattle.rv64i.proofs.Alu.{number-of, quiet, immediate-agrees, constant-agrees, operation-agrees}
+use Rattle.rv64i.proofs.Alu.{number-of, immediate-agrees, constant-agrees, operation-agrees}
 use Rattle.rv64i.proofs.Access.{load-agrees, load-quiet, width-agrees, store-agrees}
 
 -- ---- branch conditions
@@ -94,7 +94,7 @@ module _ (rows : List ℕ) (inst : ℕ) (c : Cursor) (h : At rows inst c) where
       let imm = i-immediate inst in
       let row = aluRow (fields (classOf OP-IMM inst) imm inst) in
       let t = single OP-IMM (I-immediate inst) w refl (encoding .i-immediate OP-IMM op-imm inst w) in
-      let q = quiet _ (alu-flags-lt (manual.funct3 inst) inst) in
+      let q = laws .alu-quiet (manual.funct3 inst) inst in
       let p = done rows inst c h row refl (value imm) 0 0 0 0 0 0 _ _ _ _ _ q t v e in
       record {
         goes-on = p .0;
@@ -128,7 +128,7 @@ module _ (rows : List ℕ) (inst : ℕ) (c : Cursor) (h : At rows inst c) where
       let imm = decodeOf inst .imm in
       let row = aluRow (fields (classOf OP inst) imm inst) in
       let t = op-took (e .encoded .word) (ap shifts (e .encoded .funct3) ∙ plain i) in
-      let q = quiet _ (alu-flags-lt (manual.funct3 inst) inst) in
+      let q = laws .alu-quiet (manual.funct3 inst) inst in
       let v : value imm ≡ operation-value i inst (stateOf c) =
       operation-agrees i inst _ _ imm e first-lt second-lt ∙ ap₂ (operation i .gives) first second in
       let p = done rows inst c h row refl (value imm) 0 0 0 0 0 0 _ _ _ _ _ q t _ v in

@@ -1,9 +1,8 @@
 -- What the agreement asks of a cursor is met, and its live cycles are those of a segment call. Assumes nothing.
 use mathlib.Core.Path.{_≡_, refl, ap, sym, _∙_}
 use mathlib.Core.Bool.{Bool, true, false, _&&_, false≢true}
-use mathlib.Core.List.{List, [], _∷_, append-nil}
+use mathlib.Core.List.{List, [], _∷_}
 use Prim.Native.Nat.{ℕ, zero, suc, _+_, _%_, _^_, _<_}
-use native.Mathlib.Nat.{sub-self}
 use native.Mathlib.Omega.{arith}
 use lib.ListN.{length, getD, drop}
 use lib.Seq.{take-at}
@@ -23,11 +22,11 @@ use Rattle.interp.specs.declared.Cursor.{Cursor}
 use Rattle.interp.specs.Machine.{cell}
 use Rattle.interp.specs.Cycle.{live, cycle}
 use Rattle.interp.specs.Calls.{recorded, end}
-use Rattle.interp.specs.Execute.{liveCount}
-use Rattle.interp.proofs.Halting.{count-live, ran-end, ran-recorded}
+use Rattle.interp.specs.Laws.{Running}
+use Rattle.interp.proofs.Above.{laws}
 use Rattle.rv64i.specs.Agreement.{cycles, Typed, At, Premises}
 use Rattle.rv64i.proofs.Rows.{one-row}
-use Rattle.rv64i.proofs.SixRows.{six-live}
+use Rattle.rv64i.proofs.SixRows.{six-running}
 use Rattle.rv64i.proofs.Typed.{fresh, live-kept, padding-kept}
 
 -- ---- the first row of a word of a program
@@ -66,22 +65,24 @@ register-shift inst f e =
     let o : inst % 2 ^ 7 ≡ 0x33 = decoded .number inst known ∙ n in
     (record { fits = f; has = omega arith }, ap shifts (sym (encoded .funct3 inst)) ∙ p .1)
 
-counted : (rows : List ℕ) (inst : ℕ) (c : Cursor) → inst < 2 ^ 32 → At rows inst c → c .halted ≡ false → liveCount rows (cycles inst) c ≡ cycles inst
-unfolding liveCount
-counted rows inst c f h z = by (isRegShift inst) refl
-  where
-    by : (t : Bool) → isRegShift inst ≡ t → liveCount rows (cycles inst) c ≡ cycles inst
-    by true e = let p = register-shift inst f e in six-live rows inst c h (p .0) (p .1) z
-    by false e = let n = ap length (one-row inst e) in ap (λ (k : ℕ). liveCount rows k c) n ∙ count-live rows 0 c z ∙ sym n
+one-running : (rows : List ℕ) (c : Cursor) → c .halted ≡ false → Running rows 1 c
+unfolding end
+one-running rows c z zero l = z
+one-running rows c z (suc k) l = absurd (omega arith)
 
 module _ (rows : List ℕ) (inst : ℕ) (c : Cursor) (f : inst < 2 ^ 32) (h : At rows inst c) (z : c .halted ≡ false) where
+  running : Running rows (cycles inst) c
+  running = by (isRegShift inst) refl
+    where
+      by : (t : Bool) → isRegShift inst ≡ t → Running rows (cycles inst) c
+      by true e = let p = register-shift inst f e in six-running rows inst c h (p .0) (p .1) z
+      by false e = λ k l. one-running rows c z k (omega (arith, ap length (one-row inst e)))
+
   same-cursor : end (cycle rows) (cycles inst) c ≡ end (live rows) (cycles inst) c
-  unfolding end
-  same-cursor = sym (ran-end rows true (cycles inst) c) ∙ rw (counted rows inst c f h z, sub-self (cycles inst))
+  same-cursor = laws .live-cursor rows (cycles inst) c running
 
   same-records : recorded (cycle rows) (cycles inst) c ≡ recorded (live rows) (cycles inst) c
-  unfolding recorded
-  same-records = sym (ran-recorded rows true (cycles inst) c) ∙ rw (counted rows inst c f h z, sub-self (cycles inst)) (append-nil _)
+  same-records = laws .live-records rows (cycles inst) c running
 
 pub premises : Premises
 premises =

@@ -4,7 +4,6 @@ use mathlib.Core.Bool.{Bool, true, false, cond}
 use mathlib.Core.List.{List}
 use Prim.Native.Nat.{ℕ, zero, suc, _+_, _-_, _%_, _^_, _<_}
 use native.Mathlib.Nat.{add-zero, mod-eq-of-lt, zero-div}
-use native.Mathlib.Numerals.{add-one}
 use native.Mathlib.Omega.{arith}
 use lib.ListN.{length, set}
 use lib.Seq.{set-getD, set-set, getD-set-same, getD-set-other}
@@ -21,15 +20,13 @@ use Rattle.expand.specs.declared.RomRow.{RomRow}
 use Rattle.values.specs.Values as values
 use Rattle.values.specs.Values.{signedRight, shiftAt, stageValue}
 use Rattle.values.specs.Claims as turns
-use Rattle.values.proofs.Shifts.{one-stage, in-turn}
 use Rattle.interp.specs.declared.Cursor.{Cursor}
 use Rattle.interp.specs.declared.CycleRecord.{CycleRecord}
 use Rattle.interp.specs.Machine.{rowAt, at, cell}
 use Rattle.interp.specs.Cycle.{redirect, stageEffect, stageArm, armOf, recordOf, scratched, regsAfter, ramAfter, Step, commit, stepAt, live}
 use Rattle.interp.specs.Calls.{end}
-use Rattle.interp.specs.Execute.{liveCount}
-use Rattle.interp.proofs.Halting.{count-live}
-use Rattle.interp.proofs.Runs.{end-suc}
+use Rattle.interp.specs.Laws.{Running}
+use Rattle.interp.proofs.Above.{laws}
 use Rattle.rv64i.specs.Manual.{put, Shift, SLL, SRL, SRA, shift, IsShift, shift-value, x-rs1, x-rs2}
 use Rattle.rv64i.specs.Agreement.{bytes, stateOf, cycles, after, shown, At, Shifts}
 use Rattle.rv64i.proofs.Words.{signed-right-is}
@@ -58,6 +55,13 @@ shift-zero true r t k = omega arith
 shift-zero false true true k = zero-div (2 ^ k)
 shift-zero false true false k = zero-div (2 ^ k)
 shift-zero false false t k = refl
+
+-- a stage after the first takes the shift by the k low bits of b to that by one more
+one-stage : (k f raw a b : ℕ) → 0 < k → k < 6 → stageValue k f raw (values.shift f raw a (b % 2 ^ k)) b ≡ values.shift f raw a (b % 2 ^ suc k)
+unfolding turns.stages
+one-stage zero f raw a b p l = absurd (omega arith)
+one-stage (suc k) f raw a b p l =
+    ap (λ (x : ℕ). stageValue (suc k) f raw x b) (sym (laws .in-turn k f raw a b (omega arith))) ∙ laws .in-turn (suc k) f raw a b l
 
 -- ---- what a stage leaves
 
@@ -151,16 +155,15 @@ module _ (rows : List ℕ) (inst : ℕ) (c : Cursor) (h : At rows inst c) (w : W
       ap (λ (t : Step). t .after .halted) (live-is k x d (omega arith) g)
       ∙ early-halts k (stageRow decoded k) (suc (d .«micro_pc» .0) % length rows) (staged k d) (d .regs) (d .ram) l
 
-  all-live : (n k x : ℕ) (d : Cursor) → k + n ≡ 6 → Staged k x d → d .halted ≡ false → liveCount rows n d ≡ n
-  unfolding liveCount
-  all-live zero k x d e g z = refl
-  all-live (suc zero) k x d e g z = count-live rows 0 d z
-  all-live (suc (suc n)) k x d e g z =
-      count-live rows (suc n) d z
-      ∙ ap suc (all-live (suc n) (suc k) (staged k d) (live rows d .after) (omega arith) (on k x d (omega arith) g) (stage-live k x d (omega arith) g))
+  all-running : (n k x : ℕ) (d : Cursor) → k + n ≡ 6 → Staged k x d → d .halted ≡ false → Running rows n d
+  unfolding end
+  all-running n k x d e g z zero l = z
+  all-running zero k x d e g z (suc j) l = absurd (omega arith)
+  all-running (suc n) k x d e g z (suc j) l =
+      all-running n (suc k) (staged k d) (live rows d .after) (omega arith) (on k x d (omega arith) g) (stage-live k x d (omega arith) g) j (omega arith)
 
-  pub six-live : c .halted ≡ false → liveCount rows (cycles inst) c ≡ cycles inst
-  six-live z = rw six (all-live 6 0 (cell (c .regs) 0) c refl begun z)
+  pub six-running : c .halted ≡ false → Running rows (cycles inst) c
+  six-running z k l = all-running 6 0 (cell (c .regs) 0) c refl begun z k (omega (arith, six))
 
   -- ---- the value, where rs2 is not x0
 
@@ -169,12 +172,12 @@ module _ (rows : List ℕ) (inst : ℕ) (c : Cursor) (h : At rows inst c) (w : W
     later-value : (k : ℕ) (d : Cursor) → 0 < k → k < 6 → Staged k (acc k) d → staged k d ≡ acc (suc k)
     later-value k d p l g =
         rw (ne-eqb k 0 (omega arith), g .regs, getD-set-same (c .regs) 0 (acc k) 0 (omega (arith, h .typed .regs)), getD-set-other (c .regs) 0 (rs2 inst) (acc k) 0 (omega arith))
-        (one-stage k (manual.funct3 inst) inst a b l)
+        (one-stage k (manual.funct3 inst) inst a b p l)
 
     -- the first takes the operand
     first-value : staged 0 c ≡ acc 1
     unfolding turns.stages
-    first-value = in-turn 0 (manual.funct3 inst) inst a b (omega arith)
+    first-value = laws .in-turn 0 (manual.funct3 inst) inst a b (omega arith)
 
     first-stage : Staged 1 (acc 1) (live rows c .after)
     first-stage = rw first-value at (on 0 (cell (c .regs) 0) c (omega arith) begun)
@@ -194,7 +197,7 @@ module _ (rows : List ℕ) (inst : ℕ) (c : Cursor) (h : At rows inst c) (w : W
     none = refl
 
     one-more : (n : ℕ) → end (live rows) (suc n) c ≡ live rows (end (live rows) n c) .after
-    one-more n = ap (λ (k : ℕ). end (live rows) k c) (sym (add-one n)) ∙ end-suc (live rows) n c
+    one-more n = laws .one-more (live rows) n c
 
     before : (k : ℕ) → k < 6 → Staged k (held k) (end (live rows) k c)
     before zero l = rw none begun

@@ -1,23 +1,29 @@
 -- The manual's words and integers, and the recorder's values on words. Assumes nothing.
 use mathlib.Core.Path.{_≡_, refl, ap, sym, _∙_}
-use mathlib.Core.Bool.{not}
-use mathlib.Core.Logic.{⊎-elim}
+use mathlib.Core.Bool.{Bool, true, false, not}
+use mathlib.Core.Logic.{_⊎_, inl, inr, ⊎-elim}
 use Prim.Native.Nat.{ℕ, zero, suc, _-_, _^_, _<_, _≤_}
 use native.Mathlib.Nat.{mod-eq-of-lt}
 use native.Mathlib.Omega.{arith}
 use lib.Dec.{ltb, leb}
 use lib.IntN.{ℤ, pos, negsuc, _-ℤ_}
 use lib.Signed.{ltZ, leZ, shrZ}
-use borrow.Author.Tests.{lt-ltb, le-ltb, le-leb, lt-leb}
+use borrow.Author.Tests.{ltb-true, ltb-false, lt-ltb, le-ltb, le-leb, lt-leb}
 use Rattle.decode.specs.Manual.{signed}
-use Rattle.decode.proofs.Agrees.{less, signed-low, signed-high}
+use Rattle.decode.proofs.Agrees.{signed-low, signed-high}
 use Rattle.values.specs.Values as value
 use Rattle.values.specs.Values.{minus, signedRight}
 use Rattle.values.specs.Claims as values
-use Rattle.values.proofs.Words.{lt-or-ge}
 use Rattle.values.proofs.Readings.{signed-claims}
 use Rattle.rv64i.specs.Manual.{low, difference, arithmetic-right}
 use Rattle.rv64i.proofs.Bounds.{signed-right-lt}
+
+pub lt-or-ge : (a b : ℕ) → (a < b) ⊎ (b ≤ a)
+lt-or-ge a b = by (ltb a b) refl
+  where
+    by : (t : Bool) → ltb a b ≡ t → (a < b) ⊎ (b ≤ a)
+    by true e = inl (ltb-true a b e)
+    by false e = inr (ltb-false a b e)
 
 -- ---- signed numbers
 
@@ -37,6 +43,10 @@ low-signed x h =
 
 -- ---- the difference
 
+difference-high : (a b : ℕ) → a < b → pos a -ℤ pos b ≡ negsuc (b - suc a)
+difference-high a zero h = absurd (omega arith)
+difference-high a (suc b) h = rw (lt-ltb a (suc b) h)
+
 difference-low : (a b : ℕ) → b ≤ a → pos a -ℤ pos b ≡ pos (a - b)
 difference-low a zero h = ap pos (omega arith)
 difference-low a (suc b) h = rw (le-ltb a (suc b) h)
@@ -45,7 +55,7 @@ pub minus-is : (a b : ℕ) → a < 2 ^ 64 → b < 2 ^ 64 → minus a b ≡ diffe
 unfolding low
 minus-is a b ha hb =
     ⊎-elim
-    (λ l. sym (ap low (less a b l) ∙ omega arith))
+    (λ l. sym (ap low (difference-high a b l) ∙ omega arith))
     (λ l. sym (ap low (difference-low a b l) ∙ omega arith))
     (lt-or-ge a b)
 

@@ -19,7 +19,7 @@ use Rattle.interp.specs.declared.Refusal.{Refusal}
 use Rattle.interp.specs.Machine.{startOf}
 use Rattle.interp.specs.Calls.{numberOf}
 use Rattle.interp.specs.Execute.{Executed, answered, executeOf}
-use Rattle.interp.proofs.Judged.{refused-not-0}
+use Rattle.interp.proofs.Above.{laws}
 use Rattle.interp.proofs.Executing.{execute-laws}
 use Rattle.lines.specs.Lines.{answerText, refusedText}
 use Rattle.trace_answer.specs.Trace.{wordAt, wordsFrom, inputsFrom, maxCycles, inputCount, malformed, toldOf}
@@ -113,7 +113,7 @@ count-most rows input max b h e =
 
 pub told-refused : (e : Executed) (why : Refusal) → numberOf why ≡ e .number → toldOf e ≡ refusedText (numberOf why)
 unfolding toldOf
-told-refused e why h = rw (sym h, refused-not-0 why)
+told-refused e why h = rw (sym h, laws .refused why)
 
 pub told-accepted : (e : Executed) → 0 ≡ e .number → toldOf e ≡ answerText (e .live) (e .count) (e .cursor .output) (e .buffer)
 unfolding toldOf

@@ -79,4 +79,4 @@ quarters mp imm m h =
 -- ---- the claims
 
 pub signed-claims : Signed
-signed-claims = record { order = less-signed; floor = floor; quarter = quarters; six-stages = λ funct3 raw a b. in-turn 5 funct3 raw a b (omega arith) }
+signed-claims = record { order = less-signed; floor = floor; quarter = quarters; stages = in-turn }
