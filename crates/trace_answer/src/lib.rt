@@ -14,7 +14,7 @@ use interp::Outcome;
 pub const MAX_BYTES: usize = 4096;
 
 // The largest max_cycles, so the most records too.
-pub const MAX_CYCLES: u32 = 256;
+pub const MAX_TRACE_CYCLES: u32 = 256;
 
 // The words of an input before its k input words.
 const HEAD: usize = 2;
@@ -62,7 +62,7 @@ fn is_malformed(bytes: &[u8]) -> bool
     if (n as u64) < 8 + 8 * word_at(bytes, 1) as u64 {
         return true;
     }
-    MAX_CYCLES < word_at(bytes, 0)
+    MAX_TRACE_CYCLES < word_at(bytes, 0)
 }
 
 // Puts the k input words first in `input`.
