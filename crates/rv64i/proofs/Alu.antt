@@ -21,14 +21,14 @@ pub funct7-of : {upper f inst : ℕ} → Encoded7 upper f inst → inst / 2 ^ 25
 funct7-of e = omega (arith, e .encoded .word .fits, e .funct7)
 
 -- with an immediate
-pub immediate-agrees : (i : Immediate) (inst a b imm : ℕ) → IsImmediate i inst
+pub immediate-agrees : (i : Immediate) (inst a b imm : ℕ) → IsImmediate i inst → a < 2 ^ 64 → imm < 2 ^ 64
     → aluValue (manual.funct3 inst) inst a (secondOperand inst b imm) ≡ immediate i .gives a imm
 unfolding aluValue sum low
-immediate-agrees ADDI inst a b imm e = rw (e .funct3, number-of (e .word))
-immediate-agrees SLTIU inst a b imm e = rw (e .funct3, number-of (e .word))
-immediate-agrees XORI inst a b imm e = rw (e .funct3, number-of (e .word))
-immediate-agrees ORI inst a b imm e = rw (e .funct3, number-of (e .word))
-immediate-agrees ANDI inst a b imm e = rw (e .funct3, number-of (e .word))
+immediate-agrees ADDI inst a b imm e ha hi = rw (e .funct3, number-of (e .word))
+immediate-agrees SLTIU inst a b imm e ha hi = rw (e .funct3, number-of (e .word))
+immediate-agrees XORI inst a b imm e ha hi = rw (e .funct3, number-of (e .word))
+immediate-agrees ORI inst a b imm e ha hi = rw (e .funct3, number-of (e .word))
+immediate-agrees ANDI inst a b imm e ha hi = rw (e .funct3, number-of (e .word))
 
 -- with two registers
 pub operation-agrees : (i : Operation) (inst a b imm : ℕ) → IsOperation i inst

@@ -22,8 +22,8 @@ use Rattle.interp.specs.Machine.{at, cell}
 use Rattle.interp.specs.Cycle.{aluArm, loadFlags, loadArm, storeArm, branchFlags, branchArm, upperArm, armOf, recordOf, scratched, regsAfter, stores as storing, ramAfter, commit, stepAt}
 use Rattle.interp.proofs.Above.{laws}
 use Rattle.rv64i.specs.Manual.{low, sum, difference, Immediate, immediate, IsImmediate, immediate-value, ConstantShift, constant-shift, IsConstantShift, constant-shift-value, shamt, Operation, ADD, SUB, SLTU, XOR, OR, AND, operation, IsOperation, operation-value, IsLui, lui-value, Load, load, IsLoad, load-value, load-address, Store, store, IsStore, stored, store-address, Branch, BEQ, BNE, BLT, BGE, BLTU, BGEU, branch, IsBranch, taken, x-rs1, x-rs2, i-immediate, s-immediate}
-use Rattle.rv64i.specs.Agreement.{bytes, stateOf, after, shown, takenFlag, At, Accesses, Operates, Computes, Places, Loads, Stores, Branches, most, InWord}
-use Rattle.rv64i.proofs.Words.{minus-is, less-is, not-ltb, not-ltZ}
+use Rattle.rv64i.specs.Agreement.{bytes, stateOf, ZeroCell, after, shown, takenFlag, At, Accesses, Operates, Computes, Places, Loads, Stores, Branches, most, InWord}
+use Rattle.rv64i.proofs.Words.{low-lt, minus-is, less-is, not-ltb, not-ltZ}
 use Rattle.rv64i.proofs.Cells.{state, registers, past-31}
 use Rattle.rv64i.proofs.Rows.{fields, decoded-as, immediate-is, no-shift, op-shift}
 use Rattle.rv64i.proofs.Steps.{Took, took, operand, showing, at-next, done}
@@ -106,7 +106,7 @@ module _ (rows : List ℕ) (inst : ℕ) (c : Cursor) (h : At rows inst c) where
   pub immediates : (i : Immediate) → IsImmediate i inst → Computes rows inst c (immediate-value i inst (stateOf c))
   immediates i e =
       computes (immediate-value i inst (stateOf c)) (e .word)
-      (immediate-agrees i inst _ _ (i-immediate inst) e ∙ ap (λ (a : ℕ). immediate i .gives a (i-immediate inst)) first)
+      (immediate-agrees i inst _ _ (i-immediate inst) e first-lt (low-lt (I-immediate inst)) ∙ ap (λ (a : ℕ). immediate i .gives a (i-immediate inst)) first)
 
   pub constant-shifts : (i : ConstantShift) → IsConstantShift i inst → shamt inst ≤ most i → Computes rows inst c (constant-shift-value i inst (stateOf c))
   constant-shifts i e m =
@@ -193,7 +193,7 @@ module _ (rows : List ℕ) (inst : ℕ) (c : Cursor) (h : At rows inst c) where
       }
 
   -- a cycle that writes only cell 32
-  unwritten : (d : Cursor) (v : ℕ) → d .regs ≡ set (c .regs) 32 v → (registers (d .regs) ≡ registers (c .regs)) × (cell (d .regs) 0 ≡ 0)
+  unwritten : (d : Cursor) (v : ℕ) → d .regs ≡ set (c .regs) 32 v → (registers (d .regs) ≡ registers (c .regs)) × ZeroCell d
   unwritten d v e =
       (ap registers e ∙ past-31 (c .regs) v, ap (λ (regs : List ℕ). cell regs 0) e ∙ getD-set-other (c .regs) 32 0 v 0 (omega arith) ∙ h .zero)
 

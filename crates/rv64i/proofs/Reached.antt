@@ -3,8 +3,9 @@ use mathlib.Core.Path.{_≡_, refl, ap, sym, _∙_}
 use mathlib.Core.Bool.{Bool, true, false, _&&_, false≢true}
 use mathlib.Core.List.{List, [], _∷_}
 use Prim.Native.Nat.{ℕ, zero, suc, _+_, _%_, _^_, _<_}
+use native.Mathlib.Nat.{mod-eq-of-lt}
 use native.Mathlib.Omega.{arith}
-use lib.ListN.{length, getD, drop}
+use lib.ListN.{length, getD, drop, length-drop, length-append}
 use lib.Seq.{take-at}
 use lib.Dec.{eqb}
 use borrow.Author.Tests.{eqb-true}
@@ -19,12 +20,12 @@ use Rattle.expand.specs.Rows.{isRegShift, shifts}
 use Rattle.expand.specs.Expand.{rowsOf, expansionOf, startsFrom, startsOf}
 use Rattle.expand.proofs.Laws.{laws as expanded}
 use Rattle.interp.specs.declared.Cursor.{Cursor}
-use Rattle.interp.specs.Machine.{cell}
+use Rattle.interp.specs.Machine.{startOf}
 use Rattle.interp.specs.Cycle.{live, cycle}
 use Rattle.interp.specs.Calls.{recorded, end}
 use Rattle.interp.specs.Laws.{Running}
 use Rattle.interp.proofs.Above.{laws}
-use Rattle.rv64i.specs.Agreement.{cycles, Typed, At, Premises}
+use Rattle.rv64i.specs.Agreement.{cycles, Typed, ZeroCell, At, next, Premises}
 use Rattle.rv64i.proofs.Rows.{one-row}
 use Rattle.rv64i.proofs.SixRows.{six-running}
 use Rattle.rv64i.proofs.Typed.{fresh, live-kept, padding-kept}
@@ -32,7 +33,7 @@ use Rattle.rv64i.proofs.Typed.{fresh, live-kept, padding-kept}
 -- ---- the first row of a word of a program
 
 first-row : (program : List ℕ) (i : ℕ) (c : Cursor) → i < length program → c .«micro_pc» .0 ≡ getD (startsOf program) i 0
-    → cell (c .regs) 0 ≡ 0 → Typed c → At (expansionOf program) (getD program i 0) c
+    → ZeroCell c → Typed c → At (expansionOf program) (getD program i 0) c
 first-row program i c l e z t =
     let w = getD program i 0 in
     record {
@@ -48,6 +49,34 @@ next-from k [] i l = absurd (omega arith)
 next-from k (raw ∷ []) i l = absurd (omega arith)
 next-from k (raw ∷ next ∷ program) zero l = refl
 next-from k (raw ∷ next ∷ program) (suc i) l = next-from (k + cycles raw) (next ∷ program) i (omega arith)
+
+-- a start is a row
+start-lt : (program : List ℕ) (i : ℕ) → i < length program → getD (startsOf program) i 0 < length (expansionOf program)
+start-lt program i l =
+    omega (
+      arith,
+      ap length (expanded .at-start program i l),
+      length-drop (getD (startsOf program) i 0) (expansionOf program),
+      length-append (rowsOf (getD program i 0)) (expansionOf (drop (suc i) program)),
+    )
+
+next-row : (program : List ℕ) (i : ℕ) (c : Cursor) → suc i < length program → c .«micro_pc» .0 ≡ getD (startsOf program) i 0
+    → next (expansionOf program) (getD program i 0) c ≡ getD (startsOf program) (suc i) 0
+next-row program i c l e =
+    ap (λ (k : ℕ). (k + cycles (getD program i 0)) % length (expansionOf program)) e
+    ∙ ap (λ (k : ℕ). k % length (expansionOf program)) (sym (next-from 0 program i l))
+    ∙ mod-eq-of-lt (start-lt program (suc i) l)
+
+-- ---- the fresh cursor
+
+fresh-row : (program input : List ℕ) → startOf input .«micro_pc» .0 ≡ getD (startsOf program) 0 0
+unfolding startOf startsFrom
+fresh-row [] input = refl
+fresh-row (raw ∷ program) input = refl
+
+fresh-zero : (input : List ℕ) → ZeroCell (startOf input)
+unfolding startOf
+fresh-zero input = refl
 
 -- ---- the cycles of a word in a segment
 
@@ -89,6 +118,9 @@ premises =
     record {
       first-row = first-row;
       next-word = next-from 0;
+      next-row = next-row;
+      fresh-row = fresh-row;
+      fresh-zero = fresh-zero;
       fresh = fresh;
       live-kept = live-kept;
       padding-kept = padding-kept;

@@ -32,6 +32,12 @@ same-reading : (x : ℕ) → signed 64 x ≡ values.signed x
 unfolding signed
 same-reading x = refl
 
+-- the low bits of a number are a word
+pub low-lt : (z : ℤ) → low z < 2 ^ 64
+unfolding low
+low-lt (pos n) = omega arith
+low-lt (negsuc n) = omega arith
+
 -- the low bits of a word's signed number are the word
 pub low-signed : (x : ℕ) → x < 2 ^ 64 → low (signed 64 x) ≡ x
 unfolding low

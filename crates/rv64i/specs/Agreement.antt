@@ -46,10 +46,14 @@ pub record Typed (c : Cursor) : Type 0 where
   pub ram-words : (i : ℕ) → cell (c .ram) i < 2 ^ 64
   pub output : c .output < 2 ^ 64
 
+-- cell 0, where x0 is read, is zero
+abbrev pub ZeroCell : Cursor → Type 0
+ZeroCell c = cell (c .regs) 0 ≡ 0
+
 -- a cursor at an instruction word: from micro_pc on stand the word's rows; cell 0 is zero
 pub record At (rows : List ℕ) (inst : ℕ) (c : Cursor) : Type 0 where
   pub here : take (cycles inst) (drop (c .«micro_pc» .0) rows) ≡ rowsOf inst
-  pub zero : cell (c .regs) 0 ≡ 0
+  pub zero : ZeroCell c
   pub typed : Typed c
 
 -- the ALU's operands and output in a record
@@ -96,7 +100,7 @@ module _ (rows : List ℕ) (inst : ℕ) (c : Cursor) where
   pub record GoesOn : Type 0 where
     pub running : after .halted ≡ false
     pub next : after .«micro_pc» ≡ at next
-    pub zero : cell (after .regs) 0 ≡ 0
+    pub zero : ZeroCell after
 
   -- ADD SUB XOR OR AND SLTU
   pub record Operates (v : ℕ) : Type 0 where
@@ -154,7 +158,7 @@ module _ (rows : List ℕ) (inst : ℕ) (c : Cursor) where
   pub record Branches (i : Branch) : Type 0 where
     pub running : after .halted ≡ false
     pub state : stateOf after ≡ s
-    pub zero : cell (after .regs) 0 ≡ 0
+    pub zero : ZeroCell after
     pub rs1-val : shown .«rs1_val» ≡ x-rs1 inst s
     pub rs2-val : shown .«rs2_val» ≡ x-rs2 inst s
     pub shows : Shows shown (x-rs1 inst s) (x-rs2 inst s) (difference (x-rs1 inst s) (x-rs2 inst s))
@@ -179,9 +183,15 @@ InWord address n = address % 8 + n ≤ 8
 pub record Premises : Type 0 where
   -- what `At` asks of the rows is met at the first row of each word, and the row after a word's rows is the next word's first
   pub first-row : (program : List ℕ) (i : ℕ) (c : Cursor) → i < length program → c .«micro_pc» .0 ≡ getD (startsOf program) i 0
-      → cell (c .regs) 0 ≡ 0 → Typed c → At (expansionOf program) (getD program i 0) c
+      → ZeroCell c → Typed c → At (expansionOf program) (getD program i 0) c
   pub next-word : (program : List ℕ) (i : ℕ) → suc i < length program
       → getD (startsOf program) (suc i) 0 ≡ getD (startsOf program) i 0 + cycles (getD program i 0)
+  -- that first row is one of the rows, so `next` of a word is the next word's start
+  pub next-row : (program : List ℕ) (i : ℕ) (c : Cursor) → suc i < length program → c .«micro_pc» .0 ≡ getD (startsOf program) i 0
+      → next (expansionOf program) (getD program i 0) c ≡ getD (startsOf program) (suc i) 0
+  -- a fresh cursor is at the first word, and its cell 0 is zero
+  pub fresh-row : (program input : List ℕ) → startOf input .«micro_pc» .0 ≡ getD (startsOf program) 0 0
+  pub fresh-zero : (input : List ℕ) → ZeroCell (startOf input)
   -- a fresh cursor is typed, and every cycle keeps it so
   pub fresh : (input : List ℕ) → ((i : ℕ) → cell input i < 2 ^ 64) → Typed (startOf input)
   pub live-kept : (rows : List ℕ) (c : Cursor) → Typed c → Typed (live rows c .after)
