@@ -23,13 +23,13 @@ fn agree_from(a: &[u64], b: &[u64], from: usize) -> bool
     true
 }
 
-fn same_registers(a: &[u64; 64], b: &[u64; 64]) -> bool
+fn same_registers(a: &[u64; Cursor::REGS], b: &[u64; Cursor::REGS]) -> bool
     ensures { λ r. ⌜ r ≡ agree (drop 1 (now (a .entry))) (drop 1 (now (b .entry))) ⌝ }
 {
     agree_from(a, b, FIRST_REGISTER)
 }
 
-fn same_ram(a: &[u64; 256], b: &[u64; 256]) -> bool
+fn same_ram(a: &[u64; Cursor::RAM_WORDS], b: &[u64; Cursor::RAM_WORDS]) -> bool
     ensures { λ r. ⌜ r ≡ agree (now (a .entry)) (now (b .entry)) ⌝ }
 {
     agree_from(a, b, 0)

@@ -1,7 +1,7 @@
 -- Laws on words that are copied, and on the image of a cursor. Assumes nothing.
 use mathlib.Core.Path.{_≡_, refl, sym, ap, _∙_}
 use mathlib.Core.Bool.{Bool, true, false}
-use mathlib.Core.List.{List, [], _∷_, _++_, append-nil}
+use mathlib.Core.List.{List, _++_, append-nil}
 use Prim.Native.Nat.{ℕ, _+_, _<_}
 use native.Mathlib.Nat.{zero-add}
 use native.Mathlib.Numerals.{add-one}
@@ -10,8 +10,8 @@ use mir.Val.{boolByte}
 use lib.ListN.{length, take, drop, getD, set, length-drop, drop-of-length-le}
 use lib.Seq.{sets, sets-eq, take-all, getD-drop, paste, paste-suc, length-paste, take-paste}
 use Rattle.interp.specs.declared.Cursor.{Cursor}
-use Rattle.magnetar_cpu.specs.Words.{wordOf}
-use Rattle.magnetar_cpu.specs.Image.{imageOf}
+use Rattle.magnetar_cpu.specs.Words.{boolWord}
+use Rattle.magnetar_cpu.specs.Image.{imageWords, numbersOf, imageOf}
 
 -- one more word copied, from place a of s to place b of d
 pub copied-on : (d s : List ℕ) (b a j : ℕ) → b + j < length d → a + j < length s
@@ -56,17 +56,12 @@ module _ (d r s vs : List ℕ) (m n : ℕ) (hr : length r ≡ m) (hs : length s 
       ∙ append-nil (r ++ s ++ vs)
 
 -- a truth value as a cast gives it
-cast : (b : Bool) → boolByte b ≡ wordOf b
+pub cast : (b : Bool) → boolByte b ≡ boolWord b
 cast true = refl
 cast false = refl
 
 -- a cursor written over an image
-pub image-written : (c : Cursor) (d : List ℕ) → length (c .regs) ≡ 64 → length (c .ram) ≡ 256 → length d ≡ 325
-    → sets (paste (paste d 0 (c .regs) 64) 64 (c .ram) 256) 320
-    (c .«micro_pc» .0 ∷ c .cycles ∷ boolByte (c .halted) ∷ c .output ∷ c .«next_fetch» .0 ∷ [])
-    ≡ imageOf c
+pub image-written : (c : Cursor) (d : List ℕ) → length (c .regs) ≡ 64 → length (c .ram) ≡ 256 → length d ≡ imageWords
+    → sets (paste (paste d 0 (c .regs) 64) 64 (c .ram) 256) 320 (numbersOf c) ≡ imageOf c
 unfolding imageOf
-image-written c d hr hs hd =
-    let vs : ℕ → List ℕ = λ w. c .«micro_pc» .0 ∷ c .cycles ∷ w ∷ c .output ∷ c .«next_fetch» .0 ∷ [] in
-    written d (c .regs) (c .ram) (vs (boolByte (c .halted))) 64 256 hr hs hd
-    ∙ ap (λ (w : ℕ). c .regs ++ c .ram ++ vs w) (cast (c .halted))
+image-written c d hr hs hd = written d (c .regs) (c .ram) (numbersOf c) 64 256 hr hs hd

@@ -2,24 +2,23 @@
 use mathlib.Core.Path.{_≡_, refl, sym, ap, _∙_}
 use mathlib.Core.Bool.{Bool, true, false, not}
 use mathlib.Core.List.{List, [], _∷_, _++_}
-use Prim.Native.Nat.{ℕ, zero, suc, _+_, _≤_, _<_}
+use Prim.Native.Nat.{ℕ, zero, suc, _+_, _-_, _≤_}
 use native.Mathlib.Omega.{arith}
 use lib.Dec.{eqb, eqb·suc-zero}
 use lib.ListN.{length, take, drop, getD, length-append, length-take, length-drop, take-append-drop, drop-of-length-le}
 use lib.Seq.{take-append-le, drop-append-le, getD-append-add, drop-cons, take-add, take-at, drop-at}
 use Rattle.interp.specs.declared.Cursor.{Cursor}
-use Rattle.interp.specs.Machine.{at, startOf}
+use Rattle.interp.specs.Machine.{startOf}
 use Rattle.interp.specs.Calls.{Call, refusalOf, settled, answerOf, added, last, log}
-use Rattle.interp.specs.Execute.{executeOf}
 use Rattle.interp.specs.Laws.{Sized}
 use Rattle.interp.proofs.Above.{laws}
-use Rattle.magnetar_cpu.specs.Words.{wordOf}
-use Rattle.magnetar_cpu.specs.Image.{imageWords, cursorOf, imageOf, imageAfter}
+use Rattle.magnetar_cpu.specs.Words.{boolWord}
+use Rattle.magnetar_cpu.specs.Image.{imageWords, cursorOf, numbersOf, imageOf, imageAfter}
 use Rattle.magnetar_cpu.specs.Claims.{lastImage, imageLog, Kept, ImageLaws}
 
 -- ---- a cursor through its image
 
-word-back : (b : Bool) → not (eqb (wordOf b) 0) ≡ b
+word-back : (b : Bool) → not (eqb (boolWord b) 0) ≡ b
 word-back true = refl
 word-back false = refl
 
@@ -27,29 +26,26 @@ module _ (c : Cursor) (s : Sized c) where
   abbrev cells : List ℕ
   cells = c .regs ++ c .ram
 
-  abbrev numbers : List ℕ
-  numbers = c .«micro_pc» .0 ∷ c .cycles ∷ wordOf (c .halted) ∷ c .output ∷ c .«next_fetch» .0 ∷ []
-
   cells-size : length cells ≡ 320
   cells-size = length-append (c .regs) (c .ram) ∙ omega arith
 
   registers : take 64 (imageOf c) ≡ c .regs
   unfolding imageOf
-  registers = take-append-le 64 cells numbers (omega (arith, cells-size)) ∙ take-at (c .regs) (c .ram) 64 (s .regs)
+  registers = take-append-le 64 cells (numbersOf c) (omega (arith, cells-size)) ∙ take-at (c .regs) (c .ram) 64 (s .regs)
 
   ram-words : take 256 (drop 64 (imageOf c)) ≡ c .ram
   unfolding imageOf
   ram-words =
-      ap (take 256) (drop-append-le 64 cells numbers (omega (arith, cells-size)) ∙ ap (λ (l : List ℕ). l ++ numbers) (drop-at (c .regs) (c .ram) 64 (s .regs)))
-      ∙ take-at (c .ram) numbers 256 (s .ram)
+      ap (take 256) (drop-append-le 64 cells (numbersOf c) (omega (arith, cells-size)) ∙ ap (λ (l : List ℕ). l ++ numbersOf c) (drop-at (c .regs) (c .ram) 64 (s .regs)))
+      ∙ take-at (c .ram) (numbersOf c) 256 (s .ram)
 
-  number-at : (i : ℕ) → getD (imageOf c) (320 + i) 0 ≡ getD numbers i 0
+  number-at : (i : ℕ) → getD (imageOf c) (320 + i) 0 ≡ getD (numbersOf c) i 0
   unfolding imageOf
-  number-at i = ap (λ (n : ℕ). getD (cells ++ numbers) (n + i) 0) (sym cells-size) ∙ getD-append-add cells numbers i 0
+  number-at i = ap (λ (n : ℕ). getD (cells ++ numbersOf c) (n + i) 0) (sym cells-size) ∙ getD-append-add cells (numbersOf c) i 0
 
   image-size : length (imageOf c) ≡ imageWords
   unfolding imageOf
-  image-size = length-append cells numbers ∙ omega (arith, cells-size)
+  image-size = length-append cells (numbersOf c) ∙ omega (arith, cells-size)
 
   read-back : cursorOf (imageOf c) ≡ c
   unfolding cursorOf
@@ -60,20 +56,20 @@ module _ (c : Cursor) (s : Sized c) where
 
 -- ---- an image through its cursor
 
-bit-back : (w : ℕ) → w ≤ 1 → wordOf (not (eqb w 0)) ≡ w
+bit-back : (w : ℕ) → w ≤ 1 → boolWord (not (eqb w 0)) ≡ w
 bit-back zero h = refl
 bit-back (suc zero) h = refl
 bit-back (suc (suc w)) h = absurd (omega arith)
 
--- the words of an image past its cells
-abbrev numbers-of : List ℕ → List ℕ
-numbers-of image = getD image 320 0 ∷ getD image 321 0 ∷ getD image 322 0 ∷ getD image 323 0 ∷ getD image 324 0 ∷ []
+-- k words from place j on
+abbrev words-from : ℕ → ℕ → List ℕ → List ℕ
+words-from zero j image = []
+words-from (suc k) j image = getD image j 0 ∷ words-from k (suc j) image
 
-numbers-last : (image : List ℕ) → length image ≡ imageWords → drop 320 image ≡ numbers-of image
-numbers-last image h =
-    let from : (j : ℕ) → j < imageWords → drop j image ≡ getD image j 0 ∷ drop (suc j) image = λ j g. drop-cons image j 0 (omega arith) in
-    rw (from 320 (omega arith), from 321 (omega arith), from 322 (omega arith), from 323 (omega arith), from 324 (omega arith))
-    (ap (λ l. getD image 320 0 ∷ getD image 321 0 ∷ getD image 322 0 ∷ getD image 323 0 ∷ getD image 324 0 ∷ l) (drop-of-length-le image {i = 325} (omega arith)))
+last-words : (k j : ℕ) (image : List ℕ) → length image ≡ j + k → drop j image ≡ words-from k j image
+last-words zero j image h = drop-of-length-le image {i = j} (omega arith)
+last-words (suc k) j image h =
+    drop-cons image j 0 (omega arith) ∙ ap (λ l. getD image j 0 ∷ l) (last-words k (suc j) image (omega arith))
 
 image-sized : (image : List ℕ) → length image ≡ imageWords → Sized (cursorOf image)
 unfolding cursorOf
@@ -82,9 +78,10 @@ image-sized image h = record { regs = simp length-take (omega arith); ram = simp
 written-back : (image : List ℕ) → length image ≡ imageWords → getD image 322 0 ≤ 1 → imageOf (cursorOf image) ≡ image
 unfolding cursorOf imageOf
 written-back image h halted =
+    let numbers = imageWords - 320 in
     rw (bit-back (getD image 322 0) halted)
-    (ap (λ (l : List ℕ). l ++ numbers-of image) (sym (take-add 64 256 image))
-    ∙ ap (λ (l : List ℕ). take 320 image ++ l) (sym (numbers-last image h))
+    (ap (λ (l : List ℕ). l ++ words-from numbers 320 image) (sym (take-add 64 256 image))
+    ∙ ap (λ (l : List ℕ). take 320 image ++ l) (sym (last-words numbers 320 image h))
     ∙ take-append-drop 320 image)
 
 -- ---- calls

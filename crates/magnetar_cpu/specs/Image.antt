@@ -1,5 +1,5 @@
--- A cursor's image, its 325 words: registers at 0 to 63, RAM at 64 to 319, then micro_pc, cycles, halted, output and
--- next_fetch. Assumes nothing: these are definitions.
+-- A cursor's image in words: registers at 0 to 63, RAM at 64 to 319, and then its numbers. Assumes nothing: these are
+-- definitions.
 use Prim.Native.Nat.{ℕ}
 use mathlib.Core.Bool.{not}
 use mathlib.Core.List.{List, [], _∷_, _++_}
@@ -9,7 +9,7 @@ use Rattle.interp.specs.declared.Cursor.{Cursor}
 use Rattle.interp.specs.Machine.{at}
 use Rattle.interp.specs.Calls.{Answered}
 use Rattle.interp.specs.Execute.{Executed}
-use Rattle.magnetar_cpu.specs.Words.{wordOf, leftAfter}
+use Rattle.magnetar_cpu.specs.Words.{boolWord, leftAfter}
 
 -- the words of an image
 abbrev pub imageWords : ℕ
@@ -28,12 +28,13 @@ cursorOf image =
       «next_fetch» = at (getD image 324 0);
     }
 
--- the image of a cursor; the halted word is 0 or 1
+-- the numbers of a cursor; the halted word is 0 or 1
+abbrev pub numbersOf : Cursor → List ℕ
+numbersOf c = c .«micro_pc» .0 ∷ c .cycles ∷ boolWord (c .halted) ∷ c .output ∷ c .«next_fetch» .0 ∷ []
+
+-- the image of a cursor
 unfoldable pub imageOf : Cursor → List ℕ
-imageOf c =
-    c .regs
-    ++ c .ram
-    ++ (c .«micro_pc» .0 ∷ c .cycles ∷ wordOf (c .halted) ∷ c .output ∷ c .«next_fetch» .0 ∷ [])
+imageOf c = c .regs ++ c .ram ++ numbersOf c
 
 -- an image after a call with this answer: the answer's cursor, or after a refusal the image as it was
 abbrev pub imageAfter : Answered → List ℕ → List ℕ

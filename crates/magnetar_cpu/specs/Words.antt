@@ -6,8 +6,8 @@ use Rattle.expand.specs.Expand.{Told}
 use Rattle.interp.specs.Execute.{Executed}
 
 -- a truth value as a word
-abbrev pub wordOf : Bool → ℕ
-wordOf b = cond b 1 0
+abbrev pub boolWord : Bool → ℕ
+boolWord b = cond b 1 0
 
 -- what stands behind a lent pointer after a call that answers this number: if it is 0 the new content, else the old
 abbrev pub leftAfter : {A : Type 0} → ℕ → A → A → A

@@ -11,7 +11,7 @@ ghost use Rattle.interp.specs.Calls.{segment, padded, outcomeNumber};
 ghost use Rattle.interp.specs.Calls as calls;
 ghost use Rattle.interp.specs.Execute.{executeOf};
 ghost use Rattle.checkpoint.specs.Checkpoint.{sameOf};
-ghost use Rattle.magnetar_cpu.specs.Words.{wordOf, leftAfter, countAfter, liveAfter, recordCountAfter};
+ghost use Rattle.magnetar_cpu.specs.Words.{boolWord, leftAfter, countAfter, liveAfter, recordCountAfter};
 ghost use Rattle.magnetar_cpu.specs.Image.{imageWords, cursorOf, imageOf, imageAfter, executedImage};
 ghost use Rattle.magnetar_cpu.specs.Claims.{ImageLaws};
 use expand::Expanded;
@@ -19,19 +19,20 @@ use expand::MicroPc;
 use interp::Cursor;
 use interp::Outcome;
 
-// The words of a cursor's image: 64 registers, 256 words of RAM, and the five words at the places below. Any halted word
-// but 0 is a halted machine; 0 or 1 is written.
-const IMAGE_WORDS: usize = 325;
+// The places of a cursor's numbers in its image, behind its registers and RAM. Any halted word but 0 is a halted machine; 0
+// or 1 is written.
+const MICRO_PC: usize = Cursor::REGS + Cursor::RAM_WORDS;
 
-const MICRO_PC: usize = 320;
+const CYCLES: usize = MICRO_PC + 1;
 
-const CYCLES: usize = 321;
+const HALTED: usize = MICRO_PC + 2;
 
-const HALTED: usize = 322;
+const OUTPUT: usize = MICRO_PC + 3;
 
-const OUTPUT: usize = 323;
+const NEXT_FETCH: usize = MICRO_PC + 4;
 
-const NEXT_FETCH: usize = 324;
+// The words of an image.
+const IMAGE_WORDS: usize = MICRO_PC + 5;
 
 // Expands a program: its row words go to the first places of `rows`, the position of each word's first row to those of
 // `starts`, and the count of rows to `count`. 1: no words; 2: more than 1,048,576 words; 6: `rows` is shorter than the
@@ -60,7 +61,7 @@ pub extern "C" fn magnetar_expand(
 // 1 if the rows are the expansion of a program of any length, else 0.
 #[no_mangle]
 pub extern "C" fn magnetar_is_expansion(rows: &[u64]) -> u64
-    ensures { λ r. ⌜ r ≡ wordOf (isExpansion (now (rows .entry))) ⌝ }
+    ensures { λ r. ⌜ r ≡ boolWord (isExpansion (now (rows .entry))) ⌝ }
 {
     if expand::is_expansion(rows) { 1 } else { 0 }
 }
@@ -212,7 +213,7 @@ pub extern "C" fn magnetar_execute(
 // halted words but 0 agree.
 #[no_mangle]
 pub extern "C" fn magnetar_same(a: &[u64; IMAGE_WORDS], b: &[u64; IMAGE_WORDS]) -> u64
-    ensures { λ r. ⌜ r ≡ wordOf (sameOf (cursorOf (now (a .entry))) (cursorOf (now (b .entry)))) ⌝ }
+    ensures { λ r. ⌜ r ≡ boolWord (sameOf (cursorOf (now (a .entry))) (cursorOf (now (b .entry)))) ⌝ }
 {
     let first = read_cursor(a);
     let second = read_cursor(b);

@@ -11,10 +11,10 @@ use Rattle.magnetar_cpu.proofs.read_cursor.Tie as tie
 returns : tie.Need-returns
 unfolding cursorOf
 returns c =
-    let first = c .before .before .before .before .before .before .before .before .before .before .copy in
-    let second = c .before .before .before .before .before .before .copy2 in
-    let image = now (c .before .before .before .before .before .before .before .before .before .before .before .before .before .args .image) in
-    rw (first .ensures ∙ copied-over (replicate 64 0) image 64 refl, second .ensures ∙ copied-over (replicate 256 0) (drop 64 image) 256 refl)
+    let second = c .before .before .before .before .before .before in
+    let first = second .before .before .before .before in
+    let image = now (first .before .before .before .args .image) in
+    rw (first .copy .ensures ∙ copied-over (replicate 64 0) image 64 refl, second .copy2 .ensures ∙ copied-over (replicate 256 0) (drop 64 image) 256 refl)
 
 pub read-cursor-spec : {M : Type 1} → statement M
 read-cursor-spec =

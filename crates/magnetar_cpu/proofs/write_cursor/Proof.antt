@@ -1,13 +1,13 @@
 -- `magnetar_cpu::write_cursor` meets its contract. Assumes nothing.
 use mathlib.Core.Path.{ap, _∙_}
-use mathlib.Core.List.{List, [], _∷_}
+use mathlib.Core.List.{List}
 use Prim.Native.Nat.{ℕ}
 use native.Mathlib.Omega.{arith}
 use borrow.Author.Needs.{needs}
 use denote.Ref.{now}
-use mir.Val.{boolByte}
 use lib.Seq.{sets, paste}
-use Rattle.magnetar_cpu.proofs.Images.{image-written}
+use Rattle.magnetar_cpu.specs.Image.{numbersOf}
+use Rattle.magnetar_cpu.proofs.Images.{cast, image-written}
 use Rattle.magnetar_cpu.proofs.write_cursor.Statement.{statement}
 use Rattle.magnetar_cpu.proofs.write_cursor.Tie as tie
 
@@ -15,9 +15,9 @@ returns : tie.Need-returns
 returns c =
     let args = c .before .before .before .before .before .before .before .before .before .before .args in
     let to = args .t1 in
-    let vs = to .«micro_pc» .0 ∷ to .cycles ∷ boolByte (to .halted) ∷ to .output ∷ to .«next_fetch» .0 ∷ [] in
-    ap (λ (l : List ℕ). sets l 320 vs) (c .copy2 .ensures ∙ ap (λ (l : List ℕ). paste l 64 (to .ram) 256) (c .before .before .before .before .before .copy .ensures))
-    ∙ image-written to (now (args .image)) (omega arith) (omega arith) (omega arith)
+    rw (cast (to .halted))
+    (ap (λ (l : List ℕ). sets l 320 (numbersOf to)) (c .copy2 .ensures ∙ ap (λ (l : List ℕ). paste l 64 (to .ram) 256) (c .before .before .before .before .before .copy .ensures))
+    ∙ image-written to (now (args .image)) (omega arith) (omega arith) (omega arith))
 
 pub write-cursor-spec : {M : Type 1} → statement M
 write-cursor-spec =
