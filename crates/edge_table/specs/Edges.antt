@@ -82,8 +82,8 @@ pub record Edges : Type 0 where
   pub m8 : cell (after (0x4200D193 ∷ []) 1 (machine 0 0x8000000000000000 0) .regs) 3 ≡ 0x80000000
   -- max_cycles 0: one latch record, row 0, rd 10, value 0
   pub m9 :
-      (executeOf (expansionOf example) [] 0 (replicate 17 1) .live ≡ 0)
-      × (executeOf (expansionOf example) [] 0 (replicate 17 1) .count ≡ 1)
+      (executeOf (expansionOf example) [] 0 (replicate 17 1) .live-count ≡ 0)
+      × (executeOf (expansionOf example) [] 0 (replicate 17 1) .record-count ≡ 1)
       × (executeOf (expansionOf example) [] 0 (replicate 17 1) .buffer ≡ 0 ∷ 0 ∷ 0 ∷ 0 ∷ 0 ∷ 10 ∷ 0 ∷ 0 ∷ 0 ∷ 0 ∷ 0 ∷ 0 ∷ 0 ∷ 0 ∷ 0 ∷ 0 ∷ 0x8000000 ∷ [])
   -- jal x1,0 at row 2: link (word 3) and rd_old (word 4)
   pub m10 :

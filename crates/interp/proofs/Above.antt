@@ -1,4 +1,4 @@
--- The laws that the crates above use. Assumes nothing.
+-- The claims that the crates above use: no other proof of this crate can be named there. Assumes nothing.
 use mathlib.Core.Path.{_≡_, refl, ap, sym, _∙_}
 use mathlib.Core.Bool.{false}
 use mathlib.Core.List.{List, _∷_}
@@ -10,6 +10,10 @@ use Rattle.interp.specs.declared.CycleRecord.{CycleRecord}
 use Rattle.interp.specs.Cycle.{aluFlags, stores, Step, live, cycle}
 use Rattle.interp.specs.Calls.{recorded, end}
 use Rattle.interp.specs.Laws.{Running, Laws}
+use Rattle.interp.specs.Readings.{Signed}
+use Rattle.interp.specs.Execute.{ExecuteLaws}
+use Rattle.interp.proofs.values.Readings.{signed-claims}
+use Rattle.interp.proofs.executing.Executing.{execute-laws}
 use Rattle.interp.proofs.arms.Lawful.{alu-flags-lt}
 use Rattle.interp.proofs.calls.Runs.{end-suc}
 use Rattle.interp.proofs.refusals.Judged.{refused-not-0}
@@ -64,3 +68,11 @@ laws =
       live-cursor = live-cursor;
       live-records = live-records;
     }
+
+-- the other claims that they use, from where they are proved
+
+pub readings : Signed
+readings = signed-claims
+
+pub executions : ExecuteLaws
+executions = execute-laws

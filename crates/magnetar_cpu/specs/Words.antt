@@ -19,8 +19,8 @@ countAfter answer count = leftAfter (answer .number) (answer .count) count
 
 -- the word lent for the live count of an execution
 abbrev pub liveAfter : Executed → ℕ → ℕ
-liveAfter answer live = leftAfter (answer .number) (answer .live) live
+liveAfter answer live = leftAfter (answer .number) (answer .live-count) live
 
 -- the word lent for the record count of an execution
 abbrev pub recordCountAfter : Executed → ℕ → ℕ
-recordCountAfter answer count = leftAfter (answer .number) (answer .count) count
+recordCountAfter answer count = leftAfter (answer .number) (answer .record-count) count

@@ -7,14 +7,14 @@ use native.Mathlib.Omega.{arith}
 use lib.ListN.{length, set}
 use lib.Pow.{mod-pow-add, shr-shr}
 use lib.Seq.{sets}
-use Rattle.values.specs.Values.{wordOf, offsetOf, byte, half, loadValue, storeWidth, merge, storeValue}
+use Rattle.interp.specs.Values.{ramAddrOf, byteOffsetOf, byte, half, loadValue, storeWidth, merge, storeValue}
 use Rattle.interp.specs.Machine.{cell}
 use Rattle.interp.specs.Cycle.{loadFlag, loadFlags, stores}
 use Rattle.rv64i.specs.Manual.{read, write, Load, LBU, LHU, LD, load, Store, SB, SH, SW, SD, store}
 use Rattle.rv64i.specs.Agreement.{bytesOf, bytes, InWord}
 use Rattle.rv64i.proofs.Memory.{bytes-set, write-sets, read-word}
 
-place : (at : ℕ) → at % 2048 ≡ 8 * wordOf at + offsetOf at
+place : (at : ℕ) → at % 2048 ≡ 8 * ramAddrOf at + byteOffsetOf at
 place at = omega arith
 
 -- ---- loads
@@ -32,17 +32,17 @@ half-is w off h =
 
 module _ (ram : List ℕ) (at : ℕ) (words : (k : ℕ) → cell ram k < 2 ^ 64) where
   -- the bytes of an access are those of its RAM word from its offset on
-  read-is : (n : ℕ) → InWord at n → cell ram (wordOf at) / 2 ^ (8 * offsetOf at) % 2 ^ (8 * n) ≡ read n (bytes ram) at
-  read-is n h = sym (read-word n ram (wordOf at) (offsetOf at) at (omega arith) (place at) h)
+  read-is : (n : ℕ) → InWord at n → cell ram (ramAddrOf at) / 2 ^ (8 * byteOffsetOf at) % 2 ^ (8 * n) ≡ read n (bytes ram) at
+  read-is n h = sym (read-word n ram (ramAddrOf at) (byteOffsetOf at) at (omega arith) (place at) h)
 
-  pub load-agrees : (i : Load) → InWord at (load i .gives) → loadValue (load i .funct3) (cell ram (wordOf at)) (offsetOf at) ≡ read (load i .gives) (bytes ram) at
+  pub load-agrees : (i : Load) → InWord at (load i .gives) → loadValue (load i .funct3) (cell ram (ramAddrOf at)) (byteOffsetOf at) ≡ read (load i .gives) (bytes ram) at
   unfolding loadValue
-  load-agrees LBU h = byte-is (cell ram (wordOf at)) (offsetOf at) (omega arith) ∙ read-is 1 h
-  load-agrees LHU h = half-is (cell ram (wordOf at)) (offsetOf at) (omega arith) ∙ read-is 2 h
+  load-agrees LBU h = byte-is (cell ram (ramAddrOf at)) (byteOffsetOf at) (omega arith) ∙ read-is 1 h
+  load-agrees LHU h = half-is (cell ram (ramAddrOf at)) (byteOffsetOf at) (omega arith) ∙ read-is 2 h
   load-agrees LD h =
-      let w = cell ram (wordOf at) in
-      let b : w < 2 ^ 64 = words (wordOf at) in
-      let z : offsetOf at ≡ 0 = omega arith in
+      let w = cell ram (ramAddrOf at) in
+      let b : w < 2 ^ 64 = words (ramAddrOf at) in
+      let z : byteOffsetOf at ≡ 0 = omega arith in
       let e : w ≡ w / 2 ^ (8 * 0) % 2 ^ 64 = omega arith in
       e ∙ ap (λ (n : ℕ). w / 2 ^ (8 * n) % 2 ^ 64) (sym z) ∙ read-is 8 h
 
@@ -64,11 +64,11 @@ width-agrees SD = refl
 
 -- a store of n bytes, by its funct3
 store-is : (n f : ℕ) (ram : List ℕ) (at src : ℕ) → storeWidth f ≡ n → length ram ≡ 256 → InWord at n
-    → bytes (set ram (wordOf at) (storeValue f (cell ram (wordOf at)) src (offsetOf at))) ≡ write n (bytes ram) at src
+    → bytes (set ram (ramAddrOf at) (storeValue f (cell ram (ramAddrOf at)) src (byteOffsetOf at))) ≡ write n (bytes ram) at src
 unfolding storeValue
 store-is n f ram at src e hl h =
-    let k = wordOf at in
-    let off = offsetOf at in
+    let k = ramAddrOf at in
+    let off = byteOffsetOf at in
     let o : off % 8 ≡ off = omega arith in
     let m : min (storeWidth f) (8 - off) ≡ n = omega arith in
     ap (λ (x : ℕ). bytes (set ram k (merge (cell ram k) src (8 * x) (8 * min (storeWidth f) (8 - x))))) o
@@ -78,5 +78,5 @@ store-is n f ram at src e hl h =
     ∙ sym (write-sets n (bytes ram) at src (omega (arith, place at)))
 
 pub store-agrees : (i : Store) (ram : List ℕ) (at src : ℕ) → length ram ≡ 256 → InWord at (store i .gives)
-    → bytes (set ram (wordOf at) (storeValue (store i .funct3) (cell ram (wordOf at)) src (offsetOf at))) ≡ write (store i .gives) (bytes ram) at src
+    → bytes (set ram (ramAddrOf at) (storeValue (store i .funct3) (cell ram (ramAddrOf at)) src (byteOffsetOf at))) ≡ write (store i .gives) (bytes ram) at src
 store-agrees i ram at src hl h = store-is (store i .gives) (store i .funct3) ram at src (width-agrees i) hl h

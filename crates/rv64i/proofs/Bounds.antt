@@ -8,7 +8,8 @@ use lib.Arith.{digits-lt}
 use lib.Bits.{and-lt, or-lt, xor-lt}
 use lib.Dec.{eqb, ltb}
 use lib.Pow.{pow-pos, pow-add, shr-lt, shr-le}
-use Rattle.values.specs.Values.{signedRight, alternate, registerForm, secondOperand, shiftAt, sum, aluValue, amount, stageValue, loadValue, storeWidth, merge, storeValue, upperValue}
+use Rattle.expand.specs.declared.MicroPc.{MicroPc}
+use Rattle.interp.specs.Values.{signedRight, alternate, registerForm, secondOperand, shiftAt, sum, aluValue, stageAmount, stageValue, loadValue, storeWidth, merge, storeValue, upperValue}
 
 pub cond-lt : (b : Bool) {x y n : ℕ} → x < n → y < n → cond b x y < n
 cond-lt true p q = p
@@ -24,7 +25,7 @@ shift-lt l r t x k h =
     cond-lt l (omega arith) (cond-lt r (cond-lt t (signed-right-lt x k h) (lt-of-le-of-lt (shr-le x k) h)) h)
 
 pub stage-lt : (k f raw acc b : ℕ) → acc < 2 ^ 64 → stageValue k f raw acc b < 2 ^ 64
-stage-lt k f raw acc b h = shift-lt (eqb f 1) (eqb f 5) (alternate raw) acc (amount k b) h
+stage-lt k f raw acc b h = shift-lt (eqb f 1) (eqb f 5) (alternate raw) acc (stageAmount k b) h
 
 two-lt : (f raw a b : ℕ) → a < 2 ^ 64 → b < 2 ^ 64 → aluValue f raw a b < 2 ^ 64
 unfolding aluValue sum
@@ -59,6 +60,6 @@ store-lt f old src off h =
     let e : 64 - k - m + m + k ≡ 64 = omega arith in
     rw e at (merge-lt old src (64 - k - m) m k (rw e h))
 
-pub upper-lt : (raw imm mp : ℕ) → imm < 2 ^ 64 → upperValue raw imm mp < 2 ^ 64
+pub upper-lt : (raw imm : ℕ) (mp : MicroPc) → imm < 2 ^ 64 → upperValue raw imm mp < 2 ^ 64
 unfolding upperValue
 upper-lt raw imm mp h = cond-lt (eqb (raw % 2 ^ 7) 0x17) (omega arith) h

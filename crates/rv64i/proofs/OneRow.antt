@@ -15,7 +15,7 @@ use Rattle.decode.specs.Claims.{numberOf, classOf, op-imm, load as load-type, l
 use Rattle.decode.specs.declared.Inst.{Inst}
 use Rattle.decode.proofs.Agrees.{agreement as encoding}
 use Rattle.expand.specs.Rows.{shifts, aluRow, loadRow, storeRow, branchRow, upperRow, rowAs, rowOfInst}
-use Rattle.values.specs.Values.{plus, secondOperand, aluValue, upperValue, wordOf, offsetOf, loadValue, storeWidth, storeValue, branchTaken}
+use Rattle.interp.specs.Values.{plus, secondOperand, aluValue, upperValue, ramAddrOf, byteOffsetOf, loadValue, storeWidth, storeValue, branchTaken}
 use Rattle.interp.specs.declared.Cursor.{Cursor}
 use Rattle.interp.specs.declared.CycleRecord.{CycleRecord}
 use Rattle.interp.specs.Machine.{at, cell}
@@ -147,7 +147,7 @@ module _ (rows : List ℕ) (inst : ℕ) (c : Cursor) (h : At rows inst c) where
   lui w z =
       let row = upperRow (fields (classOf LUI inst) (lui-value inst) inst) in
       let t = single LUI (U-immediate inst) w refl (encoding .u-immediate LUI lui-type inst w z) in
-      let v : upperValue inst (lui-value inst) (c .«micro_pc» .0) ≡ lui-value inst = rw (number-of w) in
+      let v : upperValue inst (lui-value inst) (c .«micro_pc») ≡ lui-value inst = rw (number-of w) in
       let p = done rows inst c h row refl _ 0 0 0 0 0 0 _ _ _ _ _ refl t (lui-value inst) v in
       record {
         goes-on = p .0;
@@ -166,12 +166,12 @@ module _ (rows : List ℕ) (inst : ℕ) (c : Cursor) (h : At rows inst c) where
   reached-is offset = ap (λ (a : ℕ). plus a offset) first
 
   -- a record that shows it
-  accesses : (offset : ℕ) (r : CycleRecord) → shown rows inst c ≡ r → r .«ram_addr» ≡ wordOf (reached offset)
-      → r .«byte_offset» ≡ offsetOf (reached offset) → Accesses (shown rows inst c) (sum (x-rs1 inst (stateOf c)) offset)
+  accesses : (offset : ℕ) (r : CycleRecord) → shown rows inst c ≡ r → r .«ram_addr» ≡ ramAddrOf (reached offset)
+      → r .«byte_offset» ≡ byteOffsetOf (reached offset) → Accesses (shown rows inst c) (sum (x-rs1 inst (stateOf c)) offset)
   accesses offset r e addr off =
       record {
-        ram-addr = ap (λ (s : CycleRecord). s .«ram_addr») e ∙ addr ∙ ap wordOf (reached-is offset);
-        byte-offset = ap (λ (s : CycleRecord). s .«byte_offset») e ∙ off ∙ ap offsetOf (reached-is offset);
+        ram-addr = ap (λ (s : CycleRecord). s .«ram_addr») e ∙ addr ∙ ap ramAddrOf (reached-is offset);
+        byte-offset = ap (λ (s : CycleRecord). s .«byte_offset») e ∙ off ∙ ap byteOffsetOf (reached-is offset);
       }
 
   pub loads : (i : Load) → IsLoad i inst → InWord (load-address inst (stateOf c)) (load i .gives) → Loads rows inst c (load-value i inst (stateOf c))
@@ -181,7 +181,7 @@ module _ (rows : List ℕ) (inst : ℕ) (c : Cursor) (h : At rows inst c) where
       let row = loadRow (fields (classOf LOAD inst) offset inst) in
       let t = single LOAD (I-immediate inst) (e .word) refl (encoding .i-immediate LOAD load-type inst (e .word)) in
       let q : storing (loadFlags (manual.funct3 inst)) ≡ false = rw (e .funct3) (load-quiet i) in
-      let v : loadValue (manual.funct3 inst) (cell (c .ram) (wordOf (reached offset))) (offsetOf (reached offset)) ≡ load-value i inst (stateOf c) =
+      let v : loadValue (manual.funct3 inst) (cell (c .ram) (ramAddrOf (reached offset))) (byteOffsetOf (reached offset)) ≡ load-value i inst (stateOf c) =
       rw (e .funct3, reached-is offset) (load-agrees (c .ram) (load-address inst (stateOf c)) (h .typed .ram-words) i l) in
       let p = done rows inst c h row refl _ _ 0 0 0 _ 0 _ _ _ _ _ q t (load-value i inst (stateOf c)) v in
       record {
@@ -204,15 +204,15 @@ module _ (rows : List ℕ) (inst : ℕ) (c : Cursor) (h : At rows inst c) where
       let row = storeRow (fields (classOf STORE inst) offset inst) in
       let t = single STORE (S-immediate inst) (e .word) refl (encoding .s-immediate inst (e .word)) in
       let u = unwritten (after rows inst c) _ (ap (λ (d : Cursor). d .regs) (t .cursor)) in
-      let k = wordOf (reached offset) in
-      let new = storeValue (manual.funct3 inst) (cell (c .ram) k) (cell (c .regs) (rs2 inst)) (offsetOf (reached offset)) in
+      let k = ramAddrOf (reached offset) in
+      let new = storeValue (manual.funct3 inst) (cell (c .ram) k) (cell (c .regs) (rs2 inst)) (byteOffsetOf (reached offset)) in
       let m : bytes (set (c .ram) k new) ≡ stored i inst (stateOf c) .memory =
       rw (e .funct3, reached-is offset, second) (store-agrees i (c .ram) (store-address inst (stateOf c)) (x-rs2 inst (stateOf c)) (h .typed .ram) l) in
       let w = ap (λ (r : CycleRecord). r .«ram_addr») (t .record-of) in
       record {
         goes-on = record {
           running = ap (λ (d : Cursor). d .halted) (t .cursor);
-          next = ap (λ (d : Cursor). d .«micro_pc») (t .cursor) ∙ ap at (at-next rows inst c (t .one));
+          next = ap (λ (d : Cursor). d .«micro_pc») (t .cursor) ∙ at-next rows inst c (t .one);
           zero = u .1;
         };
         state = ap₂ state (u .0) (ap (λ (d : Cursor). bytes (d .ram)) (t .cursor) ∙ m);
@@ -247,5 +247,5 @@ module _ (rows : List ℕ) (inst : ℕ) (c : Cursor) (h : At rows inst c) where
         rs2-val = ap (λ (r : CycleRecord). r .«rs2_val») (t .record-of) ∙ second;
         shows = showing _ _ _ _ _ (t .record-of) first second (minus-is _ _ first-lt second-lt ∙ ap₂ difference first second);
         condition = ap takenFlag (t .record-of) ∙ flag-taken b ∙ v;
-        not-taken = λ n. ap (λ (d : Cursor). d .«micro_pc») (t .cursor) ∙ rw (v, n) (ap at (at-next rows inst c (t .one)));
+        not-taken = λ n. ap (λ (d : Cursor). d .«micro_pc») (t .cursor) ∙ rw (v, n) (at-next rows inst c (t .one));
       }

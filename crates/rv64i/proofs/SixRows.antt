@@ -16,17 +16,18 @@ use Rattle.decode.specs.Claims.{classOf}
 use Rattle.decode.specs.declared.Inst.{Inst}
 use Rattle.expand.specs.Rows.{shifts, stageRow, rowAs, rowOfInst}
 use Rattle.expand.specs.Expand.{stages}
+use Rattle.expand.specs.declared.MicroPc.{MicroPc}
 use Rattle.expand.specs.declared.RomRow.{RomRow}
-use Rattle.values.specs.Values as values
-use Rattle.values.specs.Values.{signedRight, shiftAt, stageValue}
-use Rattle.values.specs.Claims as turns
+use Rattle.interp.specs.Values as values
+use Rattle.interp.specs.Values.{signedRight, shiftAt, stageValue}
+use Rattle.interp.specs.Readings.{stagesValue}
 use Rattle.interp.specs.declared.Cursor.{Cursor}
 use Rattle.interp.specs.declared.CycleRecord.{CycleRecord}
 use Rattle.interp.specs.Machine.{rowAt, at, cell}
-use Rattle.interp.specs.Cycle.{redirect, stageEffect, stageArm, armOf, recordOf, scratched, regsAfter, ramAfter, Step, commit, stepAt, live}
+use Rattle.interp.specs.Cycle.{rowAfter, redirect, stageEffect, stageArm, armOf, recordOf, scratched, regsAfter, ramAfter, Step, commit, stepAt, live}
 use Rattle.interp.specs.Calls.{end}
 use Rattle.interp.specs.Laws.{Running}
-use Rattle.interp.proofs.Above.{laws}
+use Rattle.interp.proofs.Above.{laws, readings}
 use Rattle.rv64i.specs.Manual.{put, Shift, SLL, SRL, SRA, shift, IsShift, shift-value, x-rs1, x-rs2}
 use Rattle.rv64i.specs.Agreement.{bytes, stateOf, cycles, after, shown, At, Shifts}
 use Rattle.rv64i.proofs.Words.{signed-right-is}
@@ -58,24 +59,18 @@ shift-zero false false t k = refl
 
 -- a stage after the first takes the shift by the k low bits of b to that by one more
 one-stage : (k f raw a b : ℕ) → 0 < k → k < 6 → stageValue k f raw (values.shift f raw a (b % 2 ^ k)) b ≡ values.shift f raw a (b % 2 ^ suc k)
-unfolding turns.stages
+unfolding stagesValue
 one-stage zero f raw a b p l = absurd (omega arith)
 one-stage (suc k) f raw a b p l =
-    ap (λ (x : ℕ). stageValue (suc k) f raw x b) (sym (laws .in-turn k f raw a b (omega arith))) ∙ laws .in-turn (suc k) f raw a b l
+    ap (λ (x : ℕ). stageValue (suc k) f raw x b) (sym (readings .stages k f raw a b (omega arith))) ∙ readings .stages (suc k) f raw a b l
 
 -- ---- what a stage leaves
 
--- cell 0 gets the accumulator, cell 32 its own content
-kept : (regs : List ℕ) (x y : ℕ) → set (set (set regs 0 x) 0 y) 32 (cell (set regs 0 x) 32) ≡ set regs 0 y
-kept regs x y =
-    ap₂ (λ (cells : List ℕ) (n : ℕ). set cells 32 n) (set-set regs 0 x y)
-    (getD-set-other regs 0 32 x 0 (omega arith) ∙ sym (getD-set-other regs 0 32 y 0 (omega arith)))
-    ∙ set-getD (set regs 0 y) 32 0
-
-module _ (k : ℕ) (row : RomRow) (next v : ℕ) (regs ram : List ℕ) (early : k < 5) where
-  early-regs : regsAfter (stageEffect k row next v regs) regs ≡ set (set regs 0 v) 32 (cell regs 32)
+module _ (k : ℕ) (row : RomRow) (next : MicroPc) (v : ℕ) (regs ram : List ℕ) (early : k < 5) where
+  -- cell 32 gets its own content, cell 0 the accumulator
+  early-regs : scratched (stageEffect k row next v regs .scratch) (regsAfter (stageEffect k row next v regs) regs) ≡ set regs 0 v
   unfolding stageEffect regsAfter scratched
-  early-regs = rw (ne-eqb k 5 (omega arith))
+  early-regs = rw (ne-eqb k 5 (omega arith)) (ap (λ (cells : List ℕ). set cells 0 v) (set-getD regs 32 0))
 
   early-ram : ramAfter (stageEffect k row next v regs) ram ≡ ram
   unfolding stageEffect ramAfter
@@ -133,14 +128,14 @@ module _ (rows : List ℕ) (inst : ℕ) (c : Cursor) (h : At rows inst c) (w : W
   unfolding stepAt armOf stageArm commit
   on k x d l g =
       let e = live-is k x d (omega arith) g in
-      let n = suc (d .«micro_pc» .0) % length rows in
+      let n = rowAfter (d .«micro_pc») (length rows) in
       record {
         pc =
-            ap (λ (t : Step). t .after .«micro_pc» .0) e ∙ early-next k (stageRow decoded k) n (staged k d) (d .regs) (d .ram) l
+            ap (λ (t : Step). t .after .«micro_pc» .0) e ∙ ap (λ (p : MicroPc). p .0) (early-next k (stageRow decoded k) n (staged k d) (d .regs) (d .ram) l)
             ∙ mod-eq-of-lt (omega (arith, inside rows inst c h, six, g .pc)) ∙ omega (arith, g .pc);
         regs =
             ap (λ (t : Step). t .after .regs) e ∙ early-regs k (stageRow decoded k) n (staged k d) (d .regs) (d .ram) l
-            ∙ ap (λ (cells : List ℕ). set (set cells 0 (staged k d)) 32 (cell cells 32)) (g .regs) ∙ kept (c .regs) x (staged k d);
+            ∙ ap (λ (cells : List ℕ). set cells 0 (staged k d)) (g .regs) ∙ set-set (c .regs) 0 x (staged k d);
         ram = ap (λ (t : Step). t .after .ram) e ∙ early-ram k (stageRow decoded k) n (staged k d) (d .regs) (d .ram) l ∙ g .ram;
       }
 
@@ -153,7 +148,7 @@ module _ (rows : List ℕ) (inst : ℕ) (c : Cursor) (h : At rows inst c) (w : W
   unfolding stepAt armOf stageArm commit
   stage-live k x d l g =
       ap (λ (t : Step). t .after .halted) (live-is k x d (omega arith) g)
-      ∙ early-halts k (stageRow decoded k) (suc (d .«micro_pc» .0) % length rows) (staged k d) (d .regs) (d .ram) l
+      ∙ early-halts k (stageRow decoded k) (rowAfter (d .«micro_pc») (length rows)) (staged k d) (d .regs) (d .ram) l
 
   all-running : (n k x : ℕ) (d : Cursor) → k + n ≡ 6 → Staged k x d → d .halted ≡ false → Running rows n d
   unfolding end
@@ -176,8 +171,8 @@ module _ (rows : List ℕ) (inst : ℕ) (c : Cursor) (h : At rows inst c) (w : W
 
     -- the first takes the operand
     first-value : staged 0 c ≡ acc 1
-    unfolding turns.stages
-    first-value = laws .in-turn 0 (manual.funct3 inst) inst a b (omega arith)
+    unfolding stagesValue
+    first-value = readings .stages 0 (manual.funct3 inst) inst a b (omega arith)
 
     first-stage : Staged 1 (acc 1) (live rows c .after)
     first-stage = rw first-value at (on 0 (cell (c .regs) 0) c (omega arith) begun)

@@ -10,12 +10,13 @@ use Rattle.expand.specs.declared.RomRow.{RomRow}
 use Rattle.expand.specs.declared.VirtualKind.{VirtualKind}
 use Rattle.expand.specs.declared.VirtualKind.the-variants.{Alu, ShiftStage, Load, Store, Branch, Upper, Jump, System}
 use Rattle.expand.proofs.Laws.{laws as expanded}
-use Rattle.values.specs.Values.{stageValue}
+use Rattle.expand.specs.declared.MicroPc.{MicroPc}
+use Rattle.interp.specs.Values.{stageValue}
 use Rattle.interp.specs.declared.Cursor.{Cursor}
 use Rattle.interp.specs.Machine.{rowAt, loaded, startOf, cell}
 use Rattle.interp.specs.Laws.{Sized}
 use Rattle.interp.proofs.Above.{laws}
-use Rattle.interp.specs.Cycle.{redirect, stores, aluArm, stageEffect, stageArm, loadArm, storeArm, branchArm, upperArm, jumpArm, systemArm, armOf, paddingArm, scratched, regsAfter, ramAfter, commit, stepAt, live, frozenAt, padding}
+use Rattle.interp.specs.Cycle.{redirect, accumulator, stores, aluArm, stageEffect, stageArm, loadArm, storeArm, branchArm, upperArm, jumpArm, systemArm, armOf, paddingArm, scratched, regsAfter, ramAfter, commit, stepAt, live, frozenAt, padding}
 use Rattle.rv64i.specs.Agreement.{Typed}
 use Rattle.rv64i.proofs.Bounds.{cond-lt, stage-lt, alu-lt, load-lt, store-lt, upper-lt}
 
@@ -68,35 +69,35 @@ fresh input h =
 
 -- ---- the effect of a row, by its kind
 
-module _ (row : RomRow) (mp count : ℕ) (regs ram : List ℕ) (imm : row .imm < 2 ^ 64) (hr : Words regs) (hm : Words ram) where
+module _ (row : RomRow) (mp : MicroPc) (count acc : ℕ) (regs ram : List ℕ) (imm : row .imm < 2 ^ 64) (ha : acc < 2 ^ 64) (hr : Words regs) (hm : Words ram) where
   -- what it writes to a register, to RAM, and to the accumulator
   record Small (k : VirtualKind) : Type 0 where
-    value : armOf k row mp count regs ram .write .«rd_val» < 2 ^ 64
-    new : armOf k row mp count regs ram .access .«ram_new» < 2 ^ 64
-    scratch : Words (scratched (armOf k row mp count regs ram .scratch) regs)
+    value : armOf k row mp count acc regs ram .write .«rd_val» < 2 ^ 64
+    new : armOf k row mp count acc regs ram .access .«ram_new» < 2 ^ 64
+    scratch : (cells : List ℕ) → Words cells → Words (scratched (armOf k row mp count acc regs ram .scratch) cells)
 
   small : (k : VirtualKind) → Small k
   unfolding armOf aluArm stageArm stageEffect loadArm storeArm branchArm upperArm jumpArm systemArm scratched
   small Alu =
-      record { value = alu-lt (row .funct3) (row .raw) _ _ (row .imm) (hr (row .rs1)) (hr (row .rs2)) imm; new = omega arith; scratch = hr }
+      record { value = alu-lt (row .funct3) (row .raw) _ _ (row .imm) (hr (row .rs1)) (hr (row .rs2)) imm; new = omega arith; scratch = λ cells h. h }
   small (ShiftStage k) = by (eqb k 5) refl
     where
-      value : stageValue k (row .funct3) (row .raw) (cond (eqb k 0) (cell regs (row .rs1)) (cell regs 0)) (cell regs (row .rs2)) < 2 ^ 64
-      value = stage-lt k (row .funct3) (row .raw) _ _ (cond-lt (eqb k 0) (hr (row .rs1)) (hr 0))
+      value : stageValue k (row .funct3) (row .raw) (cond (eqb k 0) (cell regs (row .rs1)) acc) (cell regs (row .rs2)) < 2 ^ 64
+      value = stage-lt k (row .funct3) (row .raw) _ _ (cond-lt (eqb k 0) (hr (row .rs1)) ha)
 
       by : (t : Bool) → eqb k 5 ≡ t → Small (ShiftStage k)
-      by true e = record { value = rw e value; new = rw e (omega arith); scratch = rw e hr }
-      by false e = record { value = rw e (hr 32); new = rw e (omega arith); scratch = rw e (set-words regs 0 _ hr value) }
-  small Load = record { value = load-lt (row .funct3) _ _ (hm _); new = omega arith; scratch = hr }
-  small Store = record { value = hr 32; new = store-lt (row .funct3) _ _ _ (hm _); scratch = hr }
-  small Branch = record { value = hr 32; new = omega arith; scratch = hr }
-  small Upper = record { value = upper-lt (row .raw) (row .imm) mp imm; new = omega arith; scratch = hr }
+      by true e = record { value = rw e value; new = rw e (omega arith); scratch = λ cells h. rw e h }
+      by false e = record { value = rw e (hr 32); new = rw e (omega arith); scratch = λ cells h. rw e (set-words cells 0 _ h value) }
+  small Load = record { value = load-lt (row .funct3) _ _ (hm _); new = omega arith; scratch = λ cells h. h }
+  small Store = record { value = hr 32; new = store-lt (row .funct3) _ _ _ (hm _); scratch = λ cells h. h }
+  small Branch = record { value = hr 32; new = omega arith; scratch = λ cells h. h }
+  small Upper = record { value = upper-lt (row .raw) (row .imm) mp imm; new = omega arith; scratch = λ cells h. h }
   small Jump = by (eqb (row .rd) 0) refl
     where
       by : (t : Bool) → eqb (row .rd) 0 ≡ t → Small Jump
-      by true e = record { value = rw e (hr 32); new = rw e (omega arith); scratch = rw e hr }
-      by false e = record { value = rw e (omega arith); new = rw e (omega arith); scratch = rw e hr }
-  small System = record { value = hr 10; new = omega arith; scratch = hr }
+      by true e = record { value = rw e (hr 32); new = rw e (omega arith); scratch = λ cells h. rw e h }
+      by false e = record { value = rw e (omega arith); new = rw e (omega arith); scratch = λ cells h. rw e h }
+  small System = record { value = hr 10; new = omega arith; scratch = λ cells h. h }
 
 -- ---- the cycles
 
@@ -106,15 +107,16 @@ sized c h = record { regs = h .regs; ram = h .ram }
 pub live-kept : (rows : List ℕ) (c : Cursor) → Typed c → Typed (live rows c .after)
 unfolding live stepAt commit regsAfter ramAfter
 live-kept rows c h =
-    let mp = c .«micro_pc» .0 in
-    let row = rowAt rows mp in
-    let s = small row mp (length rows) (c .regs) (c .ram) (expanded .imm (getD rows mp 0)) (h .reg-words) (h .ram-words) (row .kind) in
-    let e = armOf (row .kind) row mp (length rows) (c .regs) (c .ram) in
+    let mp = c .«micro_pc» in
+    let row = rowAt rows (mp .0) in
+    let acc = accumulator (c .regs) in
+    let s = small row mp (length rows) acc (c .regs) (c .ram) (expanded .imm (getD rows (mp .0) 0)) (h .reg-words 0) (h .reg-words) (h .ram-words) (row .kind) in
+    let e = armOf (row .kind) row mp (length rows) acc (c .regs) (c .ram) in
     let size = laws .live-sized rows c (sized c h) in
     record {
       regs = size .regs;
       ram = size .ram;
-      reg-words = set-words (scratched (e .scratch) (c .regs)) (e .write .rd) _ (s .scratch) (s .value);
+      reg-words = s .scratch _ (set-words (c .regs) (e .write .rd) _ (h .reg-words) (s .value));
       ram-words = choice-words (stores (e .shown .flags)) _ (c .ram) (set-words (c .ram) (e .access .«ram_addr») _ (h .ram-words) (s .new)) (h .ram-words);
       output = cond-lt (e .halts) (s .value) (h .output);
     }

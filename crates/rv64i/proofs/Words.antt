@@ -11,10 +11,10 @@ use lib.Signed.{ltZ, leZ, shrZ}
 use borrow.Author.Tests.{ltb-true, ltb-false, lt-ltb, le-ltb, le-leb, lt-leb}
 use Rattle.decode.specs.Manual.{signed}
 use Rattle.decode.proofs.Agrees.{signed-low, signed-high}
-use Rattle.values.specs.Values as value
-use Rattle.values.specs.Values.{minus, signedRight}
-use Rattle.values.specs.Claims as values
-use Rattle.values.proofs.Readings.{signed-claims}
+use Rattle.interp.specs.Values as value
+use Rattle.interp.specs.Values.{minus, signedRight}
+use Rattle.interp.specs.Readings.{signedWord}
+use Rattle.interp.proofs.Above.{readings}
 use Rattle.rv64i.specs.Manual.{low, difference, arithmetic-right}
 use Rattle.rv64i.proofs.Bounds.{signed-right-lt}
 
@@ -28,7 +28,7 @@ lt-or-ge a b = by (ltb a b) refl
 -- ---- signed numbers
 
 -- the manual's reading of a word is that of the values' claims
-same-reading : (x : ℕ) → signed 64 x ≡ values.signed x
+same-reading : (x : ℕ) → signed 64 x ≡ signedWord x
 unfolding signed
 same-reading x = refl
 
@@ -70,12 +70,12 @@ minus-is a b ha hb =
 pub signed-right-is : (x k : ℕ) → x < 2 ^ 64 → signedRight x k ≡ arithmetic-right x k
 signed-right-is x k h =
     sym (low-signed (signedRight x k) (signed-right-lt x k h))
-    ∙ ap low (same-reading (signedRight x k) ∙ signed-claims .floor x k h ∙ ap (λ (z : ℤ). shrZ z (2 ^ k)) (sym (same-reading x)))
+    ∙ ap low (same-reading (signedRight x k) ∙ readings .floor x k h ∙ ap (λ (z : ℤ). shrZ z (2 ^ k)) (sym (same-reading x)))
 
 -- ---- the orders
 
 pub less-is : (a b : ℕ) → a < 2 ^ 64 → b < 2 ^ 64 → value.less a b ≡ ltZ (signed 64 a) (signed 64 b)
-less-is a b ha hb = rw (same-reading a, same-reading b) (signed-claims .order a b ha hb)
+less-is a b ha hb = rw (same-reading a, same-reading b) (readings .order a b ha hb)
 
 -- a test that fails is the other order
 pub not-ltb : (a b : ℕ) → not (ltb a b) ≡ leb b a

@@ -17,10 +17,9 @@ use Rattle.expand.specs.Expand.{expansionOf, refusalOf, answerOf, rowsAfter, nu
 use Rattle.expand.proofs.Laws.{laws as expanded}
 use Rattle.interp.specs.declared.Refusal.{Refusal}
 use Rattle.interp.specs.Machine.{startOf}
-use Rattle.interp.specs.Calls.{numberOf}
+use Rattle.interp.specs.Calls.{refusalNumber}
 use Rattle.interp.specs.Execute.{Executed, answered, executeOf}
-use Rattle.interp.proofs.Above.{laws}
-use Rattle.interp.proofs.Executing.{execute-laws}
+use Rattle.interp.proofs.Above.{laws, executions}
 use Rattle.lines.specs.Lines.{answerText, refusedText}
 use Rattle.trace_answer.specs.Trace.{wordAt, wordsFrom, inputsFrom, maxCycles, inputCount, malformed, toldOf}
 
@@ -103,19 +102,19 @@ formed bytes e =
 -- ---- execute
 
 -- it makes at most 256 records
-pub count-most : (rows input : List ℕ) (max : ℕ) (b : List ℕ) → max ≤ 256 → executeOf rows input max b .number ≡ 0 → executeOf rows input max b .count ≤ 256
+pub count-most : (rows input : List ℕ) (max : ℕ) (b : List ℕ) → max ≤ 256 → executeOf rows input max b .number ≡ 0 → executeOf rows input max b .record-count ≤ 256
 count-most rows input max b h e =
-    let counts = execute-laws .counts rows input max b e in
-    let few : executeOf rows input max b .live ≤ 256 = omega (arith, h, counts .live, execute-laws .steps rows max (startOf input) .most) in
-    omega (arith, counts .count, execute-laws .smallest (executeOf rows input max b .live) (omega (arith, few)) .least 8 (omega (arith, few)))
+    let counts = executions .counts rows input max b e in
+    let few : executeOf rows input max b .live-count ≤ 256 = omega (arith, h, counts .live-count, executions .steps rows max (startOf input) .most) in
+    omega (arith, counts .record-count, executions .smallest (executeOf rows input max b .live-count) (omega (arith, few)) .least 8 (omega (arith, few)))
 
 -- ---- the text of an execution
 
-pub told-refused : (e : Executed) (why : Refusal) → numberOf why ≡ e .number → toldOf e ≡ refusedText (numberOf why)
+pub told-refused : (e : Executed) (why : Refusal) → refusalNumber why ≡ e .number → toldOf e ≡ refusedText (refusalNumber why)
 unfolding toldOf
 told-refused e why h = rw (sym h, laws .refused why)
 
-pub told-accepted : (e : Executed) → 0 ≡ e .number → toldOf e ≡ answerText (e .live) (e .count) (e .cursor .output) (e .buffer)
+pub told-accepted : (e : Executed) → 0 ≡ e .number → toldOf e ≡ answerText (e .live-count) (e .record-count) (e .cursor .output) (e .buffer)
 unfolding toldOf
 told-accepted e h = rw (sym h)
 

@@ -62,7 +62,7 @@ ranOf bytes = runOf (expansionOf (programOf bytes)) (inputOf bytes) (maxCycles b
 
 -- an accepted execution tells its answer, a refused one its number
 unfoldable pub toldOf : Executed → List ℕ
-toldOf e = cond (eqb (e .number) 0) (answerText (e .live) (e .count) (e .cursor .output) (e .buffer)) (refusedText (e .number))
+toldOf e = cond (eqb (e .number) 0) (answerText (e .live-count) (e .record-count) (e .cursor .output) (e .buffer)) (refusedText (e .number))
 
 -- what the program prints
 unfoldable pub traceOf : List ℕ → List ℕ

@@ -4,7 +4,7 @@ use Rattle.decode.specs.Manual.{signed, U-immediate}
 use Rattle.decode.specs.Decode.{iImm, sImm, bImm, uImm, jImm, systemClass, opcodes, formOf, decodeOf}
 use Rattle.expand.specs.Rows.{isRegShift, rowAs, rowOf}
 use Rattle.expand.specs.Expand.{later, expansionOf, follows}
-use Rattle.values.specs.Values.{signedRight, shiftAt, sum, aluValue, upperValue, amount, loadValue, storeWidth, storeValue, branchTaken, quarterOn, rowCount}
+use Rattle.interp.specs.Values.{signedRight, shiftAt, sum, aluValue, upperValue, stageAmount, loadValue, storeWidth, storeValue, branchTaken, quarterOn, rowCount}
 use Rattle.interp.specs.Machine.{loaded, startOf, words, flat}
 use Rattle.interp.specs.Cycle.{aluFlags, aluArm, stageEffect, stageArm, loadFlag, loadArm, storeArm, branchArm, upperArm, jumpArm, systemArm, armOf, paddingArm, recordOf, scratched, regsAfter, ramAfter, commit, stepAt, live, frozenAt, padding}
 use Rattle.interp.specs.Calls.{recorded, end}
@@ -16,7 +16,7 @@ use Rattle.edge_table.proofs.edge_table.Statement.{statement}
 use Rattle.edge_table.proofs.edge_table.Tie as tie
 
 edges : Edges
-unfolding signed U-immediate digits wordOf lineOf linesOf answerText wordAt wordsFrom inputsFrom malformed toldOf traceOf iImm sImm bImm uImm jImm systemClass opcodes formOf decodeOf isRegShift rowAs rowOf later expansionOf follows signedRight shiftAt sum aluValue upperValue amount loadValue storeWidth storeValue branchTaken quarterOn rowCount loaded startOf words flat aluFlags aluArm stageEffect stageArm loadFlag loadArm storeArm branchArm upperArm jumpArm systemArm armOf paddingArm recordOf scratched regsAfter ramAfter commit stepAt live frozenAt padding recorded end liveCount doubled executed answered executeOf
+unfolding signed U-immediate digits wordOf lineOf linesOf answerText wordAt wordsFrom inputsFrom malformed toldOf traceOf iImm sImm bImm uImm jImm systemClass opcodes formOf decodeOf isRegShift rowAs rowOf later expansionOf follows signedRight shiftAt sum aluValue upperValue stageAmount loadValue storeWidth storeValue branchTaken quarterOn rowCount loaded startOf words flat aluFlags aluArm stageEffect stageArm loadFlag loadArm storeArm branchArm upperArm jumpArm systemArm armOf paddingArm recordOf scratched regsAfter ramAfter commit stepAt live frozenAt padding recorded end liveCount doubled executed answered executeOf
 edges = record { m1 = refl; m2 = (refl, refl); m3 = (refl, refl); m4 = refl; m5 = (refl, refl); m6 = refl; m7 = refl; m8 = refl; m9 = (refl, refl, refl); m10 = (refl, refl) }
 
 pub edge-table-spec : {M : Type 1} → statement M
