@@ -2,11 +2,11 @@
 // shift six, one for each static shift by a power of two. A row is a word, raw + 2^32 * stage.
 ghost use mathlib.Core.Path.{_≡_};
 ghost use Prim.Native.Nat.{_+_, _%_, _^_, _≤_, _<_};
-ghost use mathlib.Core.Bool.{true, _&&_};
 ghost use mathlib.Core.List.{_++_};
 ghost use lib.ListN.{length, take, drop};
 ghost use Rattle.expand.specs.Rows.{isRegShift, aluRow, stageRd, stageRow, opRow, loadRow, storeRow, branchRow, upperRow, jumpRow, systemRow, rowOfInst, rowOf};
-ghost use Rattle.expand.specs.Expand.{stages, rowsOf, expansionOf, startsOf, startAt, numberOf, toldOf, answerOf, rowsAfter, startsAfter, follows, isExpansion};
+ghost use Rattle.expand.specs.Expand.{rowsOf, expansionOf, startsOf, startAt, numberOf, toldOf, answerOf, rowsAfter, startsAfter, isExpansion};
+ghost use Rattle.expand.specs.Code.{stagesAfter};
 ghost use Rattle.expand.specs.Claims.{Decides, Laws};
 use decode::Inst;
 use decode::Opcode;
@@ -271,12 +271,10 @@ fn is_reg_shift(v: u64) -> bool
     v & 0x307f == 0x1033
 }
 
-// Whether stages 1 to 5 of the word v follow its row at i. Then the rows from i on are an expansion if those after stage 5
-// are.
+// Whether stages 1 to 5 of the word v follow its row at i.
 fn stages_after(rows: &[u64], i: usize, v: u64) -> bool
     requires { ⌜ (i < length (now rows)) × (v < 2 ^ 32) ⌝ }
-    ensures { λ r. ⌜ (r ≡ true → i + 6 ≤ length (now (rows .entry))) ⌝ }
-    ensures { λ r. ⌜ (r && isExpansion (drop (i + 6) (now (rows .entry)))) ≡ follows (stages 5 1 v) (drop (i + 1) (now (rows .entry))) ⌝ }
+    ensures { λ r. ⌜ r ≡ stagesAfter (now (rows .entry)) i v ⌝ }
 {
     if rows.len() - i < SHIFT_STAGES {
         return false;
