@@ -1,5 +1,7 @@
 // Messages on standard output, and about the lines of a list. A write that fails is told on standard
 // error.
+ghost use mathlib.Core.Path.{_≡_};
+ghost use Rattle.report.specs.Counting.{oneMore, counted, withLine, withPassed, withWrong};
 use libc::STDOUT_FILENO;
 use listing::Tally;
 
@@ -11,12 +13,16 @@ pub struct Counts {
 }
 
 // The counts wrap, at a size that no file has.
-pub fn one_more(n: u64) -> u64 {
+pub fn one_more(n: u64) -> u64
+    ensures { λ r. ⌜ r ≡ oneMore n ⌝ }
+{
     std::num::wrapping_add_u64(n, 1)
 }
 
 impl Counts {
-    pub fn none() -> Counts {
+    pub fn none() -> Counts
+        ensures { λ r. ⌜ r ≡ counted 0 0 0 ⌝ }
+    {
         Counts {
             lines: 0,
             passed: 0,
@@ -24,17 +30,23 @@ impl Counts {
         }
     }
 
-    pub fn with_line(mut self) -> Counts {
+    pub fn with_line(mut self) -> Counts
+        ensures { λ r. ⌜ r ≡ withLine self ⌝ }
+    {
         self.lines = one_more(self.lines);
         self
     }
 
-    pub fn with_passed(mut self) -> Counts {
+    pub fn with_passed(mut self) -> Counts
+        ensures { λ r. ⌜ r ≡ withPassed self ⌝ }
+    {
         self.passed = one_more(self.passed);
         self
     }
 
-    pub fn with_wrong(mut self) -> Counts {
+    pub fn with_wrong(mut self) -> Counts
+        ensures { λ r. ⌜ r ≡ withWrong self ⌝ }
+    {
         self.wrong = one_more(self.wrong);
         self
     }
@@ -99,7 +111,9 @@ pub fn say_differs(name: &[u8], number: u64, at: usize) {
 
 // Says what is wrong with the next line of a list, and answers the tally after it, whose lines are
 // its number.
-pub fn wrong_line(name: &[u8], tally: Tally, what: &[u8]) -> Tally {
+pub fn wrong_line(name: &[u8], tally: Tally, what: &[u8]) -> Tally
+    ensures { λ r. ⌜ (r .lines ≡ oneMore (tally .lines)) × (r .characters ≡ tally .characters) × (r .wrong ≡ oneMore (tally .wrong)) ⌝ }
+{
     let wrong = tally.with_wrong();
     say_place(name, wrong.lines);
     say(what);
@@ -108,7 +122,9 @@ pub fn wrong_line(name: &[u8], tally: Tally, what: &[u8]) -> Tally {
 }
 
 // Says what is wrong with the last line that was taken.
-pub fn wrong(name: &[u8], counts: Counts, what: &[u8]) -> Counts {
+pub fn wrong(name: &[u8], counts: Counts, what: &[u8]) -> Counts
+    ensures { λ r. ⌜ r ≡ withWrong counts ⌝ }
+{
     say_place(name, counts.lines);
     say(what);
     say(b"\n");
