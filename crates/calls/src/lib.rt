@@ -7,7 +7,8 @@ use text_lines::Unread;
 use text_lines::digit;
 ghost use mathlib.Core.Path.{_≡_};
 ghost use Prim.Native.Nat.{_≤_};
-ghost use lib.ListN.{length};
+ghost use lib.ListN.{length, drop};
+ghost use Rattle.calls.specs.Parse.{noNumber, digitsFrom, numberFrom, badLine, parsed, isLine, placeOf};
 
 // The most numbers of a line.
 pub const NUMBERS: usize = 17;
@@ -34,7 +35,9 @@ struct Number {
 }
 
 impl Line {
-    fn bad(letter: u8) -> Line {
+    fn bad(letter: u8) -> Line
+        ensures { λ r. ⌜ r ≡ badLine letter ⌝ }
+    {
         Line {
             letter,
             count: NUMBERS + 1,
@@ -44,14 +47,16 @@ impl Line {
 }
 
 fn no_number() -> Number
-    ensures { λ r. ⌜ r .after ≡ 0 ⌝ }
+    ensures { λ r. ⌜ r ≡ noNumber ⌝ }
 {
     Number { value: 0, after: 0 }
 }
 
 // The number that the digits from `at` on give, up to a character that is none.
 fn digits_at(line: &[u8], at: usize) -> Number
-    ensures { λ r. ⌜ r .after ≤ length (now (line .entry)) ⌝ }
+    requires { ⌜ at ≤ length (now line) ⌝ }
+    ensures number { λ r. ⌜ r ≡ digitsFrom 0 at (drop at (now (line .entry))) ⌝ }
+    ensures inside { λ r. ⌜ r .after ≤ length (now (line .entry)) ⌝ }
 {
     let mut value: u64 = 0;
     let mut i = at;
@@ -75,7 +80,8 @@ fn digits_at(line: &[u8], at: usize) -> Number
 // The number behind the space at `at`. Only 0 begins with the digit 0.
 fn number_at(line: &[u8], at: usize) -> Number
     requires { ⌜ at ≤ length (now line) ⌝ }
-    ensures { λ r. ⌜ r .after ≤ length (now (line .entry)) ⌝ }
+    ensures number { λ r. ⌜ r ≡ numberFrom at (drop at (now (line .entry))) ⌝ }
+    ensures inside { λ r. ⌜ r .after ≤ length (now (line .entry)) ⌝ }
 {
     let rest = &line[at..];
     if rest.len() < 2 {
@@ -95,7 +101,9 @@ fn number_at(line: &[u8], at: usize) -> Number
 }
 
 // The line that some bytes are, without the line feed.
-fn line_of(bytes: &[u8]) -> Line {
+fn line_of(bytes: &[u8]) -> Line
+    ensures { λ r. ⌜ r ≡ parsed (now (bytes .entry)) ⌝ }
+{
     if bytes.len() == 0 {
         return Line::bad(0);
     }
@@ -122,7 +130,9 @@ fn line_of(bytes: &[u8]) -> Line {
     }
 }
 
-pub fn is_line(line: Line, letter: u8, count: usize) -> bool {
+pub fn is_line(line: Line, letter: u8, count: usize) -> bool
+    ensures { λ r. ⌜ r ≡ isLine line letter count ⌝ }
+{
     if line.letter == letter {
         line.count == count
     } else {
@@ -133,7 +143,8 @@ pub fn is_line(line: Line, letter: u8, count: usize) -> bool {
 // The place of the cell that a line of `count` numbers names first, a register after the letter
 // `register` and a RAM word after `word`; CELLS where it names none.
 pub fn place_of(line: Line, register: u8, word: u8, count: usize) -> usize
-    ensures { λ r. ⌜ r ≤ 320 ⌝ }
+    ensures place { λ r. ⌜ r ≡ placeOf line register word count ⌝ }
+    ensures bound { λ r. ⌜ r ≤ 320 ⌝ }
 {
     let i = line.values[0];
     if is_line(line, register, count) {

@@ -3,6 +3,7 @@ use input::Filled;
 ghost use mathlib.Core.Path.{_≡_};
 ghost use Prim.Native.Nat.{_≤_, _<_};
 ghost use lib.ListN.{length};
+ghost use Rattle.text_lines.specs.Digits.{digitOf};
 
 // The part of a file that was read last. It is passed as an array, so that no caller has to prove its
 // length.
@@ -46,7 +47,8 @@ impl Unread {
 
 // The value of a lower-case hexadecimal digit, and 16 for any other character.
 pub fn digit(b: u8) -> u64
-    ensures { λ r. ⌜ r ≤ 16 ⌝ }
+    ensures value { λ r. ⌜ r ≡ digitOf b ⌝ }
+    ensures bound { λ r. ⌜ r ≤ 16 ⌝ }
 {
     if b < b'0' {
         return 16;
