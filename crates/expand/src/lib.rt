@@ -5,9 +5,9 @@ ghost use Prim.Native.Nat.{_+_, _%_, _^_, _≤_, _<_};
 ghost use mathlib.Core.List.{_++_};
 ghost use lib.ListN.{length, take, drop};
 ghost use Rattle.expand.specs.Rows.{isRegShift, aluRow, stageRd, stageRow, opRow, loadRow, storeRow, branchRow, upperRow, jumpRow, systemRow, rowOfInst, rowOf};
-ghost use Rattle.expand.specs.Expand.{rowsOf, expansionOf, startsOf, startAt, numberOf, toldOf, answerOf, rowsAfter, startsAfter, isExpansion};
+ghost use Rattle.expand.specs.Expand.{rowsOf, expansionOf, startsOf, startAt, expandRefusalNumber, expandToldOf, expandAnswerOf, rowsAfter, startsAfter, isExpansion};
 ghost use Rattle.expand.specs.Code.{stagesAfter};
-ghost use Rattle.expand.specs.Claims.{Decides, Laws};
+ghost use Rattle.expand.specs.Claims.{Decides, ExpansionLaws};
 use decode::Inst;
 use decode::Opcode;
 
@@ -15,7 +15,7 @@ use decode::Opcode;
 pub const SHIFT_STAGES: usize = 6;
 
 // The longest program that is expanded.
-pub const MAX_WORDS: usize = 1048576;
+pub const MAX_PROGRAM_WORDS: usize = 1048576;
 
 // A row position: the source's micro-PC.
 pub struct MicroPc(pub usize);
@@ -55,10 +55,10 @@ pub struct RomRow {
 
 // Why a program is not expanded.
 pub enum Refusal {
-    // 1: it has no words.
-    Empty,
-    // 2: it has more than MAX_WORDS words.
-    TooLong,
+    // 1: the program has no words, so it has no rows.
+    NoRows,
+    // 2: more than MAX_PROGRAM_WORDS words.
+    TooManyRows,
     // 6: a buffer has too few places.
     Short,
 }
@@ -66,11 +66,11 @@ pub enum Refusal {
 impl Refusal {
     // Its number in document 01's table.
     pub fn number(self) -> u64
-        ensures { λ r. ⌜ r ≡ numberOf self ⌝ }
+        ensures { λ r. ⌜ r ≡ expandRefusalNumber self ⌝ }
     {
         match self {
-            Refusal::Empty => 1,
-            Refusal::TooLong => 2,
+            Refusal::NoRows => 1,
+            Refusal::TooManyRows => 2,
             Refusal::Short => 6,
         }
     }
@@ -316,7 +316,7 @@ pub fn expansion_test()
 
 // What the layer above uses of rows and expansions, over their definitions (specs/Claims.antt).
 pub fn expansion_laws()
-    ensures { λ r. ⌜ Laws ⌝ }
+    ensures { λ r. ⌜ ExpansionLaws ⌝ }
 {}
 
 // How many rows a word has.
@@ -380,15 +380,15 @@ fn fill(program: &[u32], rows: &mut [u64], starts: &mut [u64])
 // Expands a program: its row words go to the first places of `rows`, the row position of each word's first row to those
 // of `starts`. Rows are counted before the first write, so that a refusal writes nothing.
 pub fn expand_program(program: &[u32], rows: &mut [u64], starts: &mut [u64]) -> Expanded
-    ensures answer { λ r. ⌜ toldOf r ≡ answerOf (now (program .entry)) (now (rows .entry)) (now (starts .entry)) ⌝ }
+    ensures answer { λ r. ⌜ expandToldOf r ≡ expandAnswerOf (now (program .entry)) (now (rows .entry)) (now (starts .entry)) ⌝ }
     ensures rows { λ r. ⌜ now (rows .exit) ≡ rowsAfter (now (program .entry)) (now (rows .entry)) (now (starts .entry)) ⌝ }
     ensures starts { λ r. ⌜ now (starts .exit) ≡ startsAfter (now (program .entry)) (now (rows .entry)) (now (starts .entry)) ⌝ }
 {
     if program.len() == 0 {
-        return Expanded::Refused(Refusal::Empty);
+        return Expanded::Refused(Refusal::NoRows);
     }
-    if MAX_WORDS < program.len() {
-        return Expanded::Refused(Refusal::TooLong);
+    if MAX_PROGRAM_WORDS < program.len() {
+        return Expanded::Refused(Refusal::TooManyRows);
     }
     let n = count_rows(program);
     if rows.len() < n {
