@@ -10,15 +10,15 @@ use lib.ListN.{length, drop, getD, set, replicate, drop-of-length-le}
 use lib.Seq.{drop-cons}
 use lib.Dec.{eqb, ltb}
 use borrow.Author.Tests.{eq-eqb, ne-eqb, lt-ltb, le-ltb, le-leb, lt-leb}
-use Rattle.text_lines.specs.Digits.{digitOf}
+use Rattle.text_lines.specs.Digits.{hexValue}
 use Rattle.calls.specs.declared.Number.{Number}
-use Rattle.calls.specs.Parse.{number, noNumber, digitsFrom, plain, numberFrom, lineOf, badLine, lineFrom, parsed, cellPlace}
+use Rattle.calls.specs.Parse.{numberUpTo, noNumber, digitsFrom, plain, spacedNumber, callLine, badLine, lineFrom, parsed, cellPlace}
 
 -- ---- the digits of a number
 
 module _ (line : List ℕ) (n i : ℕ) where
-  module _ (d : ℕ) (here : i < length line) (told : d ≡ digitOf (getD line i 0)) where
-    pub digits-end : d ≡ 16 → digitsFrom n i (drop i line) ≡ number n i
+  module _ (d : ℕ) (here : i < length line) (told : d ≡ hexValue (getD line i 0)) where
+    pub digits-end : d ≡ 16 → digitsFrom n i (drop i line) ≡ numberUpTo n i
     unfolding digitsFrom
     digits-end e = rw (drop-cons line i 0 here, ← told, eq-eqb d 16 e)
 
@@ -31,37 +31,37 @@ module _ (line : List ℕ) (n i : ℕ) where
       unfolding digitsFrom
       digits-on h = rw (drop-cons line i 0 here, ← told, ne-eqb d 16 more, lt-leb (2 ^ 60) n h, add-one)
 
-  pub digits-past : length line ≤ i → digitsFrom n i (drop i line) ≡ number n i
+  pub digits-past : length line ≤ i → digitsFrom n i (drop i line) ≡ numberUpTo n i
   unfolding digitsFrom
   digits-past h = rw (drop-of-length-le line {i = i} h)
 
 -- ---- a number, by the first two characters of a text that begins at place i
 
-pub short-none : (i : ℕ) (text : List ℕ) → length text < 2 → numberFrom i text ≡ noNumber
-unfolding numberFrom
+pub short-none : (i : ℕ) (text : List ℕ) → length text < 2 → spacedNumber i text ≡ noNumber
+unfolding spacedNumber
 short-none i [] h = refl
 short-none i (s ∷ []) h = refl
 short-none i (s ∷ d ∷ text) h = absurd (omega arith)
 
 module _ (i : ℕ) where
-  pub spaceless : (text : List ℕ) → 2 ≤ length text → (getD text 0 0 ≡ 32 → ⊥) → numberFrom i text ≡ noNumber
-  unfolding numberFrom
+  pub spaceless : (text : List ℕ) → 2 ≤ length text → (getD text 0 0 ≡ 32 → ⊥) → spacedNumber i text ≡ noNumber
+  unfolding spacedNumber
   spaceless [] h n = absurd (omega arith)
   spaceless (s ∷ []) h n = absurd (omega arith)
   spaceless (s ∷ d ∷ text) h n = rw (ne-eqb s 32 n)
 
-  pub digitless : (text : List ℕ) → 2 ≤ length text → getD text 0 0 ≡ 32 → digitOf (getD text 1 0) ≡ 16 → numberFrom i text ≡ noNumber
-  unfolding numberFrom
+  pub digitless : (text : List ℕ) → 2 ≤ length text → getD text 0 0 ≡ 32 → hexValue (getD text 1 0) ≡ 16 → spacedNumber i text ≡ noNumber
+  unfolding spacedNumber
   digitless [] h e z = absurd (omega arith)
   digitless (s ∷ []) h e z = absurd (omega arith)
-  digitless (s ∷ d ∷ text) h e z = rw (eq-eqb s 32 e, eq-eqb (digitOf d) 16 z)
+  digitless (s ∷ d ∷ text) h e z = rw (eq-eqb s 32 e, eq-eqb (hexValue d) 16 z)
 
-  pub spaced : (text : List ℕ) → 2 ≤ length text → getD text 0 0 ≡ 32 → (digitOf (getD text 1 0) ≡ 16 → ⊥)
-      → numberFrom i text ≡ plain (getD text 1 0) i (digitsFrom 0 (i + 1) (drop 1 text))
-  unfolding numberFrom
+  pub spaced : (text : List ℕ) → 2 ≤ length text → getD text 0 0 ≡ 32 → (hexValue (getD text 1 0) ≡ 16 → ⊥)
+      → spacedNumber i text ≡ plain (getD text 1 0) i (digitsFrom 0 (i + 1) (drop 1 text))
+  unfolding spacedNumber
   spaced [] h e z = absurd (omega arith)
   spaced (s ∷ []) h e z = absurd (omega arith)
-  spaced (s ∷ d ∷ text) h e z = rw (eq-eqb s 32 e, ne-eqb (digitOf d) 16 z)
+  spaced (s ∷ d ∷ text) h e z = rw (eq-eqb s 32 e, ne-eqb (hexValue d) 16 z)
 
 pub none-inside : (n : Number) (size : ℕ) → n ≡ noNumber → n .after ≤ size
 none-inside n size e = rw e (omega arith)
@@ -87,12 +87,12 @@ parsed-from [] h = absurd (omega arith)
 parsed-from (letter ∷ rest) h = refl
 
 module _ (bytes : List ℕ) (letter count : ℕ) (values : List ℕ) (at : ℕ) where
-  pub line-end : (more : ℕ) → length bytes ≤ at → lineFrom more bytes letter count values at ≡ lineOf letter count values
+  pub line-end : (more : ℕ) → length bytes ≤ at → lineFrom more bytes letter count values at ≡ callLine letter count values
   unfolding lineFrom
   line-end zero h = rw (le-ltb at (length bytes) h)
   line-end (suc more) h = rw (le-ltb at (length bytes) h)
 
-  module _ (n : Number) (told : n ≡ numberFrom at (drop at bytes)) (here : at < length bytes) where
+  module _ (n : Number) (told : n ≡ spacedNumber at (drop at bytes)) (here : at < length bytes) where
     pub line-bad : (more : ℕ) → n .after ≤ at → lineFrom more bytes letter count values at ≡ badLine letter
     unfolding lineFrom
     line-bad zero h = rw (lt-ltb at (length bytes) here)

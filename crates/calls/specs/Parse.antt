@@ -4,62 +4,62 @@ use mathlib.Core.Bool.{Bool, not, cond, _&&_}
 use mathlib.Core.List.{List, [], _∷_}
 use lib.ListN.{length, drop, getD, set, replicate}
 use lib.Dec.{eqb, ltb, leb}
-use Rattle.text_lines.specs.Digits.{digitOf}
+use Rattle.text_lines.specs.Digits.{hexValue}
 use Rattle.calls.specs.declared.Line.{Line}
 use Rattle.calls.specs.declared.Number.{Number}
 
 -- ---- a number
 
 -- a number, and the place behind it
-abbrev pub number : ℕ → ℕ → Number
-number value after = record { value = value; after = after }
+abbrev pub numberUpTo : ℕ → ℕ → Number
+numberUpTo value after = record { value = value; after = after }
 
 -- no number
 abbrev pub noNumber : Number
-noNumber = number 0 0
+noNumber = numberUpTo 0 0
 
 -- n with the digits in front of a text that begins at place i; none where 64 bits do not hold it
 unfoldable pub digitsFrom : ℕ → ℕ → List ℕ → Number
-digitsFrom n i [] = number n i
+digitsFrom n i [] = numberUpTo n i
 digitsFrom n i (c ∷ text) =
-    cond (eqb (digitOf c) 16)
-    (number n i)
-    (cond (leb (2 ^ 60) n) noNumber (digitsFrom (n * 16 + digitOf c) (i + 1) text))
+    cond (eqb (hexValue c) 16)
+    (numberUpTo n i)
+    (cond (leb (2 ^ 60) n) noNumber (digitsFrom (n * 16 + hexValue c) (i + 1) text))
 
 -- a number behind the space at place i that begins with the character d: only 0 begins with 0 (48)
 abbrev pub plain : ℕ → ℕ → Number → Number
 plain d i n = cond (eqb d 48 && not (eqb (n .after) (i + 2))) noNumber n
 
 -- the number behind a space (32), of a text that begins at place i
-unfoldable pub numberFrom : ℕ → List ℕ → Number
-numberFrom i [] = noNumber
-numberFrom i (s ∷ []) = noNumber
-numberFrom i (s ∷ d ∷ text) =
+unfoldable pub spacedNumber : ℕ → List ℕ → Number
+spacedNumber i [] = noNumber
+spacedNumber i (s ∷ []) = noNumber
+spacedNumber i (s ∷ d ∷ text) =
     cond (eqb s 32)
-    (cond (eqb (digitOf d) 16) noNumber (plain d i (digitsFrom 0 (i + 1) (d ∷ text))))
+    (cond (eqb (hexValue d) 16) noNumber (plain d i (digitsFrom 0 (i + 1) (d ∷ text))))
     noNumber
 
 -- ---- a line
 
 -- a letter and its numbers
-abbrev pub lineOf : ℕ → ℕ → List ℕ → Line
-lineOf letter count values = record { letter = letter; count = count; values = values }
+abbrev pub callLine : ℕ → ℕ → List ℕ → Line
+callLine letter count values = record { letter = letter; count = count; values = values }
 
 -- a line of another form
 abbrev pub badLine : ℕ → Line
-badLine letter = lineOf letter 18 (replicate 17 0)
+badLine letter = callLine letter 18 (replicate 17 0)
 
 -- the line goes on at place `at` behind its first numbers, and so many more may come
 unfoldable pub lineFrom : ℕ → List ℕ → ℕ → ℕ → List ℕ → ℕ → Line
 lineFrom zero bytes letter count values at =
-    cond (ltb at (length bytes)) (badLine letter) (lineOf letter count values)
+    cond (ltb at (length bytes)) (badLine letter) (callLine letter count values)
 lineFrom (suc more) bytes letter count values at =
-    let n = numberFrom at (drop at bytes) in
+    let n = spacedNumber at (drop at bytes) in
     cond (ltb at (length bytes))
     (cond (leb (n .after) at)
     (badLine letter)
     (lineFrom more bytes letter (count + 1) (set values count (n .value)) (n .after)))
-    (lineOf letter count values)
+    (callLine letter count values)
 
 -- the line that bytes are: a letter, then up to 17 numbers
 unfoldable pub parsed : List ℕ → Line

@@ -8,7 +8,7 @@ use text_lines::digit;
 ghost use mathlib.Core.Path.{_≡_};
 ghost use Prim.Native.Nat.{_≤_};
 ghost use lib.ListN.{length, drop};
-ghost use Rattle.calls.specs.Parse.{noNumber, digitsFrom, numberFrom, badLine, parsed, isLine, placeOf};
+ghost use Rattle.calls.specs.Parse.{noNumber, digitsFrom, spacedNumber, badLine, parsed, isLine, placeOf};
 
 // The most numbers of a line.
 pub const NUMBERS: usize = 17;
@@ -80,7 +80,7 @@ fn digits_at(line: &[u8], at: usize) -> Number
 // The number behind the space at `at`. Only 0 begins with the digit 0.
 fn number_at(line: &[u8], at: usize) -> Number
     requires { ⌜ at ≤ length (now line) ⌝ }
-    ensures number { λ r. ⌜ r ≡ numberFrom at (drop at (now (line .entry))) ⌝ }
+    ensures number { λ r. ⌜ r ≡ spacedNumber at (drop at (now (line .entry))) ⌝ }
     ensures inside { λ r. ⌜ r .after ≤ length (now (line .entry)) ⌝ }
 {
     let rest = &line[at..];

@@ -31,7 +31,7 @@ fn check_line(name: &[u8], line: &[u8; 48], tally: Tally) -> Tally {
             let wrong = tally.with_wrong();
             say_differs(name, wrong.lines, at);
             say_line(b"  stored  ", line);
-            let made = listing::line_of(raw);
+            let made = listing::word_line_of(raw);
             say_line(b"  decoded ", &made);
             wrong
         }

@@ -14,7 +14,7 @@ fn write_lines(bytes: &[u8]) -> bool {
     let mut at = 0;
     while bytes.len() - at >= 4 {
         let raw = listing::word_le(bytes[at], bytes[at + 1], bytes[at + 2], bytes[at + 3]);
-        let line = listing::line_of(raw);
+        let line = listing::word_line_of(raw);
         if !write_line(&line) {
             return false;
         }

@@ -321,7 +321,7 @@ fn check_next(fd: i32, name: &[u8], tally: Tally) -> Next {
     if got.count < 48 {
         return Next::Last(wrong_line(name, tally, b"cut short"));
     }
-    match listing::program_of(&line) {
+    match listing::program_counts(&line) {
         Program::Counts(k, n) => read_program(fd, name, tally, k as usize, n as usize),
         Program::NoLine => Next::Last(wrong_line(name, tally, b"not a program line")),
     }

@@ -9,7 +9,7 @@ use native.Mathlib.Omega.{arith}
 use lib.ListN.{length, take, drop, getD, set, length-append, length-take, drop-of-length-le}
 use lib.Seq.{sets, sets-eq, length-sets, drop-cons, drop-drop}
 use borrow.Author.Tests.{lt-ltb, le-ltb}
-use Rattle.lines.specs.Lines.{digits, decimal, wordOf, lineOf, linesOf, written}
+use Rattle.lines.specs.Lines.{digits, decimal, numberText, lineOf, linesOf, written}
 
 -- ---- texts put one behind the other
 
@@ -57,12 +57,12 @@ decimal-longer n h l = rw (decimal-last n h l) (length-append (decimal (n / 10))
 
 -- ---- lines
 
-pub word-longer : (word mark : ℕ) → length (wordOf word mark) ≡ length (decimal word) + 1
-unfolding wordOf
+pub word-longer : (word mark : ℕ) → length (numberText word mark) ≡ length (decimal word) + 1
+unfolding numberText
 word-longer word mark = length-append (decimal word) _
 
 -- a comma behind each word but the last
-pub word-next : (ws : List ℕ) (i : ℕ) → i + 1 < length ws → lineOf (drop i ws) ≡ wordOf (getD ws i 0) 44 ++ lineOf (drop (i + 1) ws)
+pub word-next : (ws : List ℕ) (i : ℕ) → i + 1 < length ws → lineOf (drop i ws) ≡ numberText (getD ws i 0) 44 ++ lineOf (drop (i + 1) ws)
 unfolding lineOf
 word-next ws i h =
     let l : i < length ws = omega arith in
@@ -70,7 +70,7 @@ word-next ws i h =
     rw (add-one, drop-cons ws i 0, drop-cons ws (suc i) 0)
 
 -- and a line feed behind the last
-pub word-last : (ws : List ℕ) (i : ℕ) → i + 1 ≡ length ws → lineOf (drop i ws) ≡ wordOf (getD ws i 0) 10
+pub word-last : (ws : List ℕ) (i : ℕ) → i + 1 ≡ length ws → lineOf (drop i ws) ≡ numberText (getD ws i 0) 10
 unfolding lineOf
 word-last ws i h =
     let l : i < length ws = omega arith in
@@ -144,7 +144,7 @@ digits-few (suc k) n =
     (λ e. rw (digit-last k n (omega arith), length-append) (omega (arith, digits-few k (n / 10))))
     (eq-zero-or-pos (n / 10))
 
-pub word-few : (word mark : ℕ) → length (wordOf word mark) ≤ 21
+pub word-few : (word mark : ℕ) → length (numberText word mark) ≤ 21
 word-few word mark = omega (arith, word-longer word mark, digits-few 20 word)
 
 line-few : (ws : List ℕ) (m : ℕ) → length ws ≤ m → 0 < m → length (lineOf ws) ≤ 21 * m
@@ -152,7 +152,7 @@ unfolding lineOf
 line-few [] m h l = omega arith
 line-few (w ∷ []) m h l = omega (arith, word-few w 10)
 line-few (w ∷ v ∷ ws) m h l =
-    omega (arith, word-few w 44, length-append (wordOf w 44) (lineOf (v ∷ ws)), line-few (v ∷ ws) (m - 1) (omega arith) (omega arith))
+    omega (arith, word-few w 44, length-append (numberText w 44) (lineOf (v ∷ ws)), line-few (v ∷ ws) (m - 1) (omega arith) (omega arith))
 
 lines-few : (n : ℕ) (ws : List ℕ) → length (linesOf n ws) ≤ 357 * n
 unfolding linesOf

@@ -23,14 +23,14 @@ abbrev pub decimal : ℕ → List ℕ
 decimal n = digits 20 n
 
 -- a word, and the character behind it
-unfoldable pub wordOf : ℕ → ℕ → List ℕ
-wordOf word mark = decimal word ++ (mark ∷ [])
+unfoldable pub numberText : ℕ → ℕ → List ℕ
+numberText word mark = decimal word ++ (mark ∷ [])
 
 -- a line: a comma (44) between the words, a line feed (10) at the end
 unfoldable pub lineOf : List ℕ → List ℕ
 lineOf [] = 10 ∷ []
-lineOf (w ∷ []) = wordOf w 10
-lineOf (w ∷ v ∷ ws) = wordOf w 44 ++ lineOf (v ∷ ws)
+lineOf (w ∷ []) = numberText w 10
+lineOf (w ∷ v ∷ ws) = numberText w 44 ++ lineOf (v ∷ ws)
 
 -- so many records, a line of 17 words for each
 unfoldable pub linesOf : ℕ → List ℕ → List ℕ
@@ -43,7 +43,7 @@ answerText live records output words = lineOf (live ∷ records ∷ output ∷ [
 
 -- a refusal: the line refused,number
 unfoldable pub refusedText : ℕ → List ℕ
-refusedText number = codes "refused," ++ wordOf number 10
+refusedText number = codes "refused," ++ numberText number 10
 
 -- the text stands first in the buffer, and the rest is as before
 abbrev pub written : List ℕ → List ℕ → List ℕ

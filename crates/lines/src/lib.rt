@@ -9,7 +9,7 @@ ghost use mathlib.Core.Path.{_≡_};
 ghost use Prim.Native.Nat.{_+_, _*_, _≤_, _<_, min};
 ghost use lib.ListN.{length};
 ghost use lib.Seq.{sets};
-ghost use Rattle.lines.specs.Lines.{decimal, wordOf, lineOf, linesOf, answerText, refusedText, written};
+ghost use Rattle.lines.specs.Lines.{decimal, numberText, lineOf, linesOf, answerText, refusedText, written};
 ghost use Rattle.lines.specs.Claims.{Decimal};
 
 // The most records of an answer.
@@ -38,9 +38,9 @@ fn put_decimal(n: u64, at: usize, out: &mut [u8]) -> usize
 }
 
 // A word and the character behind it.
-fn put_word(word: u64, mark: u8, at: usize, out: &mut [u8]) -> usize
-    requires { ⌜ at + length (wordOf word mark) ≤ length (now out) ⌝ }
-    ensures { λ r. ⌜ (r ≡ at + length (wordOf word mark)) × (now (out .exit) ≡ sets (now (out .entry)) at (wordOf word mark)) ⌝ }
+fn put_number(word: u64, mark: u8, at: usize, out: &mut [u8]) -> usize
+    requires { ⌜ at + length (numberText word mark) ≤ length (now out) ⌝ }
+    ensures { λ r. ⌜ (r ≡ at + length (numberText word mark)) × (now (out .exit) ≡ sets (now (out .entry)) at (numberText word mark)) ⌝ }
 {
     let last = put_decimal(word, at, out);
     out[last] = mark;
@@ -56,10 +56,10 @@ fn put_line(words: &[u64], at: usize, out: &mut [u8]) -> usize
     let mut next = at;
     let mut i: usize = 0;
     while i < last {
-        next = put_word(words[i], b',', next, out);
+        next = put_number(words[i], b',', next, out);
         i += 1;
     }
-    put_word(words[i], b'\n', next, out)
+    put_number(words[i], b'\n', next, out)
 }
 
 // The lines of so many records.
@@ -120,7 +120,7 @@ pub fn put_refused(number: u64, out: &mut [u8; TEXT]) -> usize
     ensures text { λ _. ⌜ now (out .exit) ≡ written (refusedText number) (now (out .entry)) ⌝ }
 {
     let next = put_text(b"refused,", out);
-    put_word(number, b'\n', next, out)
+    put_number(number, b'\n', next, out)
 }
 
 // What makes `decimal` the decimal digits (specs/Claims.antt). The function does nothing; its contract is the claim.

@@ -15,7 +15,7 @@ use Rattle.decode.specs.declared.Opcode.the-variants.{Lui, Auipc, Jal, Jalr, Br
 use Rattle.expand.specs.declared.RomRow.{RomRow}
 use Rattle.expand.specs.declared.VirtualKind.{VirtualKind}
 use Rattle.expand.specs.declared.VirtualKind.the-variants as kind
-use Rattle.listing.specs.Lines.{digit, digits, nameOf, columns, lineOfInst, valueOf, numberFrom, compareFrom}
+use Rattle.listing.specs.Lines.{digit, lastDigits, nameOf, columns, lineOfInst, hexValue, numberFrom, compareFrom}
 use Rattle.listing.specs.RowLines.{kindName, lineOfRow}
 use Rattle.listing.specs.Steps.{putDigits, putFields, blank}
 
@@ -62,12 +62,12 @@ kind-seven kind.System = seven _ _ _ _ _ _ _
 -- the columns are disjoint, so the stores and the text are the same 48 characters
 module _ (raw rd rs1 rs2 funct3 imm v : ℕ) where
   word-filled : {text : List ℕ} → Seven text
-      → putDigits (putFields (blank text 32) raw rd rs1 rs2 funct3 imm) 28 2 16 v ≡ columns text (digits 16 2 v) raw rd rs1 rs2 funct3 imm
+      → putDigits (putFields (blank text 32) raw rd rs1 rs2 funct3 imm) 28 2 16 v ≡ columns text (lastDigits 16 2 v) raw rd rs1 rs2 funct3 imm
   unfolding columns putDigits putFields blank
   word-filled (seven a b c d e f g) = refl
 
   row-filled : {text : List ℕ} → Seven text
-      → putDigits (putFields (blank text 43) raw rd rs1 rs2 funct3 imm) 29 1 10 v ≡ columns text (43 ∷ digits 10 1 v) raw rd rs1 rs2 funct3 imm
+      → putDigits (putFields (blank text 43) raw rd rs1 rs2 funct3 imm) 29 1 10 v ≡ columns text (43 ∷ lastDigits 10 1 v) raw rd rs1 rs2 funct3 imm
   unfolding columns putDigits putFields blank
   row-filled (seven a b c d e f g) = refl
 
@@ -88,12 +88,12 @@ module _ (base n i v : ℕ) (h : i < n) where
   left : n - i ≡ suc (n - (i + 1))
   left = omega arith
 
-  pub digit-read : (line : List ℕ) (at : ℕ) → valueOf (getD line (at + i) 0) < base
-      → numberFrom base (n - (i + 1)) (at + (i + 1)) (v * base + valueOf (getD line (at + i) 0)) line ≡ numberFrom base (n - i) (at + i) v line
+  pub digit-read : (line : List ℕ) (at : ℕ) → hexValue (getD line (at + i) 0) < base
+      → numberFrom base (n - (i + 1)) (at + (i + 1)) (v * base + hexValue (getD line (at + i) 0)) line ≡ numberFrom base (n - i) (at + i) v line
   unfolding numberFrom
   digit-read line at d = let f : at + (i + 1) ≡ at + i + 1 = omega arith in rw (left, f, lt-ltb _ _ d)
 
-  pub no-digit : (line : List ℕ) (at : ℕ) → base ≤ valueOf (getD line (at + i) 0) → Bad ≡ numberFrom base (n - i) (at + i) v line
+  pub no-digit : (line : List ℕ) (at : ℕ) → base ≤ hexValue (getD line (at + i) 0) → Bad ≡ numberFrom base (n - i) (at + i) v line
   unfolding numberFrom
   no-digit line at d = rw (left, le-ltb _ _ d)
 

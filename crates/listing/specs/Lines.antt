@@ -23,9 +23,9 @@ abbrev pub digit : ℕ → ℕ
 digit d = cond (ltb d 10) (48 + d) (87 + d)
 
 -- the last n digits of v in the base, the highest first
-abbrev pub digits : ℕ → ℕ → ℕ → List ℕ
-digits base zero v = []
-digits base (suc n) v = digits base n (v / base) ++ (digit (v % base) ∷ [])
+abbrev pub lastDigits : ℕ → ℕ → ℕ → List ℕ
+lastDigits base zero v = []
+lastDigits base (suc n) v = lastDigits base n (v / base) ++ (digit (v % base) ∷ [])
 
 -- the name of a class, in seven characters
 unfoldable pub nameOf : Opcode → List ℕ
@@ -49,42 +49,42 @@ nameOf Invalid = codes "Invalid"
 -- decimal, a text of two characters, the immediate in hex; and a line feed (10)
 unfoldable pub columns : List ℕ → List ℕ → ℕ → ℕ → ℕ → ℕ → ℕ → ℕ → List ℕ
 columns seven two raw rd rs1 rs2 funct3 imm =
-    digits 16 8 raw
+    lastDigits 16 8 raw
     ++ (32 ∷ seven)
-    ++ (32 ∷ digits 10 2 rd)
-    ++ (32 ∷ digits 10 2 rs1)
-    ++ (32 ∷ digits 10 2 rs2)
-    ++ (32 ∷ digits 10 1 funct3)
+    ++ (32 ∷ lastDigits 10 2 rd)
+    ++ (32 ∷ lastDigits 10 2 rs1)
+    ++ (32 ∷ lastDigits 10 2 rs2)
+    ++ (32 ∷ lastDigits 10 1 funct3)
     ++ (32 ∷ two)
-    ++ (32 ∷ digits 16 16 imm)
+    ++ (32 ∷ lastDigits 16 16 imm)
     ++ (10 ∷ [])
 
 -- the line of a decoded word, with its class and funct7 in hex
 abbrev pub lineOfInst : Inst → List ℕ
 lineOfInst d =
-    columns (nameOf (d .opcode)) (digits 16 2 (d .funct7)) (d .raw) (d .rd) (d .rs1) (d .rs2) (d .funct3) (d .imm)
+    columns (nameOf (d .opcode)) (lastDigits 16 2 (d .funct7)) (d .raw) (d .rd) (d .rs1) (d .rs2) (d .funct3) (d .imm)
 
 -- the line of a word
-abbrev pub lineOf : ℕ → List ℕ
-lineOf raw = lineOfInst (decodeOf raw)
+abbrev pub wordLineOf : ℕ → List ℕ
+wordLineOf raw = lineOfInst (decodeOf raw)
 
 -- ---- the numbers of a line
 
 -- the value of a lower-case hex digit's character, and 16 for any other
-abbrev pub valueOf : ℕ → ℕ
-valueOf c = cond (ltb c 48) 16 (cond (leb c 57) (c - 48) (cond (ltb c 97) 16 (cond (leb c 102) (c - 87) 16)))
+abbrev pub hexValue : ℕ → ℕ
+hexValue c = cond (ltb c 48) 16 (cond (leb c 57) (c - 48) (cond (ltb c 97) 16 (cond (leb c 102) (c - 87) 16)))
 
 -- n and the digits at the next `left` places, as one number; Bad where one is no digit of the base
 unfoldable pub numberFrom : ℕ → ℕ → ℕ → ℕ → List ℕ → Parsed
 numberFrom base zero at n line = Number n
 numberFrom base (suc left) at n line =
-    cond (ltb (valueOf (getD line at 0)) base)
-    (numberFrom base left (at + 1) (n * base + valueOf (getD line at 0)) line)
+    cond (ltb (hexValue (getD line at 0)) base)
+    (numberFrom base left (at + 1) (n * base + hexValue (getD line at 0)) line)
     Bad
 
 -- the word that the first eight characters give, of a line with a line feed at its end
-abbrev pub wordOf : List ℕ → Parsed
-wordOf line = cond (eqb (getD line 47 0) 10) (numberFrom 16 8 0 0 line) Bad
+abbrev pub parsedWord : List ℕ → Parsed
+parsedWord line = cond (eqb (getD line 47 0) 10) (numberFrom 16 8 0 0 line) Bad
 
 -- the word of four bytes, the lowest first
 abbrev pub wordLe : ℕ → ℕ → ℕ → ℕ → ℕ
@@ -117,9 +117,9 @@ ofCompared raw (Differs at) = JDiffers at raw
 
 -- the judgement of a line, by what it begins with
 abbrev pub ofParsed : List ℕ → Parsed → Judged
-ofParsed line (Number raw) = ofCompared raw (compareOf line (lineOf raw))
+ofParsed line (Number raw) = ofCompared raw (compareOf line (wordLineOf raw))
 ofParsed line Bad = NoLine
 
 -- no line without a word in front and a line feed at its end; else the line against that of its word
 abbrev pub judgeOf : List ℕ → Judged
-judgeOf line = ofParsed line (wordOf line)
+judgeOf line = ofParsed line (parsedWord line)

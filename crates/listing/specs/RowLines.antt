@@ -9,7 +9,7 @@ use Rattle.expand.specs.declared.RomRow.{RomRow}
 use Rattle.expand.specs.declared.VirtualKind.{VirtualKind}
 use Rattle.expand.specs.declared.VirtualKind.the-variants as kind
 use Rattle.listing.specs.Text.{codes}
-use Rattle.listing.specs.Lines.{digits, columns, numberFrom, wordOf, compareOf}
+use Rattle.listing.specs.Lines.{lastDigits, columns, numberFrom, parsedWord, compareOf}
 use Rattle.listing.specs.declared.Parsed.{Parsed}
 use Rattle.listing.specs.declared.Parsed.the-variants.{Number, Bad}
 use Rattle.listing.specs.declared.Compared.{Compared}
@@ -24,7 +24,7 @@ use Rattle.listing.specs.declared.rows.Program.the-variants.{Counts, NoL
 -- the name of a kind, in seven characters; that of a stage ends in its last decimal digit
 unfoldable pub kindName : VirtualKind → List ℕ
 kindName kind.Alu = codes "Alu    "
-kindName (kind.ShiftStage stage) = codes "Shift " ++ digits 10 1 stage
+kindName (kind.ShiftStage stage) = codes "Shift " ++ lastDigits 10 1 stage
 kindName kind.Load = codes "Load   "
 kindName kind.Store = codes "Store  "
 kindName kind.Branch = codes "Branch "
@@ -35,7 +35,7 @@ kindName kind.System = codes "System "
 -- the line of a row, with its kind, and a `+` (43) and its distance from the first row of its instruction
 abbrev pub lineOfRow : RomRow → ℕ → List ℕ
 lineOfRow r distance =
-    columns (kindName (r .kind)) (43 ∷ digits 10 1 distance) (r .raw) (r .rd) (r .rs1) (r .rs2) (r .funct3) (r .imm)
+    columns (kindName (r .kind)) (43 ∷ lastDigits 10 1 distance) (r .raw) (r .rd) (r .rs1) (r .rs2) (r .funct3) (r .imm)
 
 -- the line of a row word
 abbrev pub rowLineOf : ℕ → ℕ → List ℕ
@@ -50,7 +50,7 @@ ofWord line Bad = NoRow
 
 -- no row line without a word in front and a line feed at its end
 abbrev pub headOf : List ℕ → Head
-headOf line = ofWord line (wordOf line)
+headOf line = ofWord line (parsedWord line)
 
 -- ---- the line in front of the rows of a program
 
@@ -70,5 +70,5 @@ ofShape line (Same n) = ofCounts (numberFrom 10 4 9 0 line) (numberFrom 10 4 21 
 ofShape line (Differs at) = NoProgram
 
 -- the counts of a line of that shape
-abbrev pub programOf : List ℕ → Program
-programOf line = ofShape line (compareOf programShape line)
+abbrev pub programCounts : List ℕ → Program
+programCounts line = ofShape line (compareOf programShape line)

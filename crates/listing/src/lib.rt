@@ -13,11 +13,11 @@ pub use rows::Head;
 pub use rows::Program;
 pub use rows::compare_row;
 pub use rows::head_of;
-pub use rows::program_of;
+pub use rows::program_counts;
 pub use rows::row_line_of;
 ghost use mathlib.Core.Path.{_≡_};
 ghost use Prim.Native.Nat.{_+_, _%_, _^_, _≤_, _<_};
-ghost use Rattle.listing.specs.Lines.{digit, nameOf, lineOf, valueOf, numberFrom, wordOf, wordLe, compareOf, judgeOf};
+ghost use Rattle.listing.specs.Lines.{digit, nameOf, wordLineOf, hexValue, numberFrom, parsedWord, wordLe, compareOf, judgeOf};
 ghost use Rattle.listing.specs.Steps.{putDigits, putFields, blank};
 use decode::Opcode;
 
@@ -159,8 +159,8 @@ fn blank_of(op: Opcode) -> [u8; 48]
 }
 
 // The line of a word.
-pub fn line_of(raw: u32) -> [u8; 48]
-    ensures { λ r. ⌜ r ≡ lineOf raw ⌝ }
+pub fn word_line_of(raw: u32) -> [u8; 48]
+    ensures { λ r. ⌜ r ≡ wordLineOf raw ⌝ }
 {
     let d = decode::decode(raw);
     let op = d.opcode;
@@ -171,8 +171,8 @@ pub fn line_of(raw: u32) -> [u8; 48]
 }
 
 // The value of a lower-case hex digit, and 16 for any other character.
-fn value_of(b: u8) -> u32
-    ensures { λ r. ⌜ r ≡ valueOf b ⌝ }
+fn hex_value(b: u8) -> u32
+    ensures { λ r. ⌜ r ≡ hexValue b ⌝ }
 {
     if b < b'0' {
         return 16;
@@ -194,7 +194,7 @@ fn number_at(line: &[u8; 48], at: usize, n: usize, base: u32) -> Parsed
     let mut number: u32 = 0;
     let mut i = 0;
     while i < n {
-        let d = value_of(line[at + i]);
+        let d = hex_value(line[at + i]);
         if base <= d {
             return Parsed::Bad;
         }
@@ -205,8 +205,8 @@ fn number_at(line: &[u8; 48], at: usize, n: usize, base: u32) -> Parsed
 }
 
 // The word that a line begins with; a line has a line feed at its end.
-fn word_of(line: &[u8; 48]) -> Parsed
-    ensures { λ r. ⌜ r ≡ wordOf (now (line .entry)) ⌝ }
+fn parsed_word(line: &[u8; 48]) -> Parsed
+    ensures { λ r. ⌜ r ≡ parsedWord (now (line .entry)) ⌝ }
 {
     if line[47] != b'\n' {
         return Parsed::Bad;
@@ -244,10 +244,10 @@ fn compare(stored: &[u8; 48], made: &[u8; 48]) -> Compared
 pub fn judge(line: &[u8; 48]) -> Judged
     ensures { λ r. ⌜ r ≡ judgeOf (now (line .entry)) ⌝ }
 {
-    let Parsed::Number(raw) = word_of(line) else {
+    let Parsed::Number(raw) = parsed_word(line) else {
         return Judged::NoLine;
     };
-    let made = line_of(raw);
+    let made = word_line_of(raw);
     match compare(line, &made) {
         Compared::Same(n) => Judged::Same(n),
         Compared::Differs(at) => Judged::Differs(at, raw),

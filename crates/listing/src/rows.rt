@@ -6,16 +6,16 @@
 // A row line has the columns of a listing line but for two: from 9 the kind of the row, and from 28 a
 // `+` and its distance from the first row of its instruction. A program line is padded with spaces.
 ghost use mathlib.Core.Path.{_≡_};
-ghost use Rattle.listing.specs.RowLines.{kindName, rowLineOf, headOf, programOf};
+ghost use Rattle.listing.specs.RowLines.{kindName, rowLineOf, headOf, programCounts};
 ghost use Rattle.listing.specs.Lines.{compareOf};
 ghost use Rattle.listing.specs.Steps.{blank};
 use crate::Compared;
 use crate::Parsed;
 use crate::compare;
 use crate::number_at;
+use crate::parsed_word;
 use crate::put_digits;
 use crate::put_fields;
-use crate::word_of;
 use expand::VirtualKind;
 
 // What a row line says of its instruction: the word of it, where the row is its first.
@@ -80,7 +80,7 @@ pub fn compare_row(line: &[u8; 48], word: u64, distance: usize) -> Compared
 pub fn head_of(line: &[u8; 48]) -> Head
     ensures { λ r. ⌜ r ≡ headOf (now (line .entry)) ⌝ }
 {
-    let Parsed::Number(raw) = word_of(line) else {
+    let Parsed::Number(raw) = parsed_word(line) else {
         return Head::NoLine;
     };
     if line[28] != b'+' {
@@ -93,8 +93,8 @@ pub fn head_of(line: &[u8; 48]) -> Head
 }
 
 // A program line has these characters, and a decimal digit for each dot.
-pub fn program_of(line: &[u8; 48]) -> Program
-    ensures { λ r. ⌜ r ≡ programOf (now (line .entry)) ⌝ }
+pub fn program_counts(line: &[u8; 48]) -> Program
+    ensures { λ r. ⌜ r ≡ programCounts (now (line .entry)) ⌝ }
 {
     let shape = *b"program: .... words, .... rows                 \n";
     let Compared::Same(_) = compare(&shape, line) else {

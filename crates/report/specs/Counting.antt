@@ -7,17 +7,17 @@ abbrev pub oneMore : ℕ → ℕ
 oneMore n = (n + 1) % 2 ^ 64
 
 -- so many lines taken, passed over and wrong
-abbrev pub counted : ℕ → ℕ → ℕ → Counts
-counted lines passed wrong = record { lines = lines; passed = passed; wrong = wrong }
+abbrev pub countsOf : ℕ → ℕ → ℕ → Counts
+countsOf lines passed wrong = record { lines = lines; passed = passed; wrong = wrong }
 
 -- one line more
 abbrev pub withLine : Counts → Counts
-withLine c = counted (oneMore (c .lines)) (c .passed) (c .wrong)
+withLine c = countsOf (oneMore (c .lines)) (c .passed) (c .wrong)
 
 -- one more of the lines is passed over
 abbrev pub withPassed : Counts → Counts
-withPassed c = counted (c .lines) (oneMore (c .passed)) (c .wrong)
+withPassed c = countsOf (c .lines) (oneMore (c .passed)) (c .wrong)
 
 -- one more of the lines is wrong
 abbrev pub withWrong : Counts → Counts
-withWrong c = counted (c .lines) (c .passed) (oneMore (c .wrong))
+withWrong c = countsOf (c .lines) (c .passed) (oneMore (c .wrong))

@@ -1,7 +1,7 @@
 // Messages on standard output, and about the lines of a list. A write that fails is told on standard
 // error.
 ghost use mathlib.Core.Path.{_≡_};
-ghost use Rattle.report.specs.Counting.{oneMore, counted, withLine, withPassed, withWrong};
+ghost use Rattle.report.specs.Counting.{oneMore, countsOf, withLine, withPassed, withWrong};
 use libc::STDOUT_FILENO;
 use listing::Tally;
 
@@ -21,7 +21,7 @@ pub fn one_more(n: u64) -> u64
 
 impl Counts {
     pub fn none() -> Counts
-        ensures { λ r. ⌜ r ≡ counted 0 0 0 ⌝ }
+        ensures { λ r. ⌜ r ≡ countsOf 0 0 0 ⌝ }
     {
         Counts {
             lines: 0,

@@ -4,5 +4,5 @@ use mathlib.Core.Bool.{cond}
 use lib.Dec.{ltb, leb}
 
 -- the value of a lower-case hexadecimal digit's character, and 16 for any other
-unfoldable pub digitOf : ℕ → ℕ
-digitOf c = cond (ltb c 48) 16 (cond (leb c 57) (c - 48) (cond (ltb c 97) 16 (cond (leb c 102) (c - 87) 16)))
+unfoldable pub hexValue : ℕ → ℕ
+hexValue c = cond (ltb c 48) 16 (cond (leb c 57) (c - 48) (cond (ltb c 97) 16 (cond (leb c 102) (c - 87) 16)))

@@ -3,7 +3,7 @@ use input::Filled;
 ghost use mathlib.Core.Path.{_≡_};
 ghost use Prim.Native.Nat.{_≤_, _<_};
 ghost use lib.ListN.{length};
-ghost use Rattle.text_lines.specs.Digits.{digitOf};
+ghost use Rattle.text_lines.specs.Digits.{hexValue};
 
 // The part of a file that was read last. It is passed as an array, so that no caller has to prove its
 // length.
@@ -47,7 +47,7 @@ impl Unread {
 
 // The value of a lower-case hexadecimal digit, and 16 for any other character.
 pub fn digit(b: u8) -> u64
-    ensures value { λ r. ⌜ r ≡ digitOf b ⌝ }
+    ensures value { λ r. ⌜ r ≡ hexValue b ⌝ }
     ensures bound { λ r. ⌜ r ≤ 16 ⌝ }
 {
     if b < b'0' {

@@ -5,7 +5,7 @@ use denote.Ref.{now}
 use lib.ListN.{length, drop}
 use borrow.Author.Needs.{needs}
 use Rattle.calls.specs.declared.Number.{Number}
-use Rattle.calls.specs.Parse.{number, digitsFrom}
+use Rattle.calls.specs.Parse.{numberUpTo, digitsFrom}
 use Rattle.calls.proofs.Turns.{digits-end, digits-large, digits-on, digits-past}
 use Rattle.calls.proofs.digits_at.Statement.{statement}
 use Rattle.calls.proofs.digits_at.Tie as tie
@@ -44,7 +44,7 @@ returns-3 c =
     let a = c .before .before .before .args in
     let at = c .before .loop in
     let all : length (now (a .line)) ≡ at .i = omega arith in
-    (ap (number (at .value)) all ∙ sym (digits-past (now (a .line)) (at .value) (at .i) (omega arith)) ∙ at .inv .1, omega arith)
+    (ap (numberUpTo (at .value)) all ∙ sym (digits-past (now (a .line)) (at .value) (at .i) (omega arith)) ∙ at .inv .1, omega arith)
 
 pub digits-at-spec : {M : Type 1} → statement M
 digits-at-spec =

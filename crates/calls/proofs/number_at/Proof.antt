@@ -7,7 +7,7 @@ use denote.Ref.{now}
 use lib.ListN.{length, take, drop, getD, length-drop}
 use lib.Seq.{take-all, drop-drop}
 use borrow.Author.Needs.{needs}
-use Rattle.calls.specs.Parse.{digitsFrom, plain, numberFrom}
+use Rattle.calls.specs.Parse.{digitsFrom, plain, spacedNumber}
 use Rattle.calls.proofs.Turns.{short-none, spaceless, digitless, spaced, none-inside, leading-zero, no-leading-zero}
 use Rattle.calls.proofs.number_at.Statement.{statement}
 use Rattle.calls.proofs.number_at.Tie as tie
@@ -24,14 +24,14 @@ returns c =
     let a = c .before .before .before .before .args in
     let line = now (a .line) in
     let none = c .no-number .ensures in
-    (none ∙ sym (short-none (a .at) (rest line (a .at)) (c .before .if1 .taken)) ∙ ap (numberFrom (a .at)) (whole line (a .at)), none-inside (c .no-number .result) (length line) none)
+    (none ∙ sym (short-none (a .at) (rest line (a .at)) (c .before .if1 .taken)) ∙ ap (spacedNumber (a .at)) (whole line (a .at)), none-inside (c .no-number .result) (length line) none)
 
 returns-2 : tie.Need-returns-2
 returns-2 c =
     let a = c .before .before .before .before .before .before .args in
     let line = now (a .line) in
     let none = c .no-number2 .ensures in
-    (none ∙ sym (spaceless (a .at) (rest line (a .at)) (omega arith) (c .before .if2 .taken)) ∙ ap (numberFrom (a .at)) (whole line (a .at)), none-inside (c .no-number2 .result) (length line) none)
+    (none ∙ sym (spaceless (a .at) (rest line (a .at)) (omega arith) (c .before .if2 .taken)) ∙ ap (spacedNumber (a .at)) (whole line (a .at)), none-inside (c .no-number2 .result) (length line) none)
 
 returns-3 : tie.Need-returns-3
 returns-3 c =
@@ -40,16 +40,16 @@ returns-3 c =
     let none = c .no-number3 .ensures in
     let digit = c .before .before .digit in
     let no-digit = digitless (a .at) (rest line (a .at)) (omega arith) (c .before .before .before .before .if2 .left) (sym (digit .ensures .0) ∙ c .before .if3 .taken) in
-    (none ∙ sym no-digit ∙ ap (numberFrom (a .at)) (whole line (a .at)), none-inside (c .no-number3 .result) (length line) none)
+    (none ∙ sym no-digit ∙ ap (spacedNumber (a .at)) (whole line (a .at)), none-inside (c .no-number3 .result) (length line) none)
 
 -- behind the digits: the number is theirs but for a leading zero
-digits : (c : tie.After-digits-at) → numberFrom (c .before .before .before .before .before .before .before .before .before .args .at) (drop (c .before .before .before .before .before .before .before .before .before .args .at) (now (c .before .before .before .before .before .before .before .before .before .args .line))) ≡ plain (getD (rest (now (c .before .before .before .before .before .before .before .before .before .args .line)) (c .before .before .before .before .before .before .before .before .before .args .at)) 1 0) (c .before .before .before .before .before .before .before .before .before .args .at) (c .digits-at .result)
+digits : (c : tie.After-digits-at) → spacedNumber (c .before .before .before .before .before .before .before .before .before .args .at) (drop (c .before .before .before .before .before .before .before .before .before .args .at) (now (c .before .before .before .before .before .before .before .before .before .args .line))) ≡ plain (getD (rest (now (c .before .before .before .before .before .before .before .before .before .args .line)) (c .before .before .before .before .before .before .before .before .before .args .at)) 1 0) (c .before .before .before .before .before .before .before .before .before .args .at) (c .digits-at .result)
 digits c =
     let a = c .before .before .before .before .before .before .before .before .before .args in
     let line = now (a .line) in
     let digit = c .before .before .digit in
     let behind = ap (drop 1) (whole line (a .at)) ∙ drop-drop 1 (a .at) line in
-    ap (numberFrom (a .at)) (sym (whole line (a .at)))
+    ap (spacedNumber (a .at)) (sym (whole line (a .at)))
     ∙ spaced (a .at) (rest line (a .at)) (omega arith) (c .before .before .before .before .if2 .left) (λ e. c .before .if3 .left (digit .ensures .0 ∙ e))
     ∙ ap (plain (getD (rest line (a .at)) 1 0) (a .at)) (ap (digitsFrom 0 (a .at + 1)) behind ∙ sym (c .digits-at .ensures .0))
 

@@ -5,7 +5,7 @@ use native.Mathlib.Omega.{arith}
 use denote.Ref.{now}
 use lib.ListN.{length, drop, getD}
 use borrow.Author.Needs.{needs}
-use Rattle.lines.specs.Lines.{wordOf, lineOf}
+use Rattle.lines.specs.Lines.{numberText, lineOf}
 use Rattle.lines.proofs.Laws.{Rest, none-put, part-put, part-fits, last-put, word-next, word-last}
 use Rattle.lines.proofs.put_line.Statement.{statement}
 use Rattle.lines.proofs.put_line.Tie as tie
@@ -17,28 +17,28 @@ Inv-loop words at out₀ last next₀ i₀ out next i =
 abbrev μ-loop : tie.MeasureT-loop
 μ-loop words at out₀ last next₀ i₀ out next i = last - i
 
-put-word-requires : tie.Need-put-word-requires Inv-loop μ-loop
-put-word-requires c κs =
+put-number-requires : tie.Need-put-number-requires Inv-loop μ-loop
+put-number-requires c κs =
     let l = c .before .before .before .loop in
     let a = c .before .before .before .before .before .before in
-    part-fits (wordOf (getD (now (a .args .words)) (l .i) 0) 44) _ (l .inv .1) (word-next _ (l .i) (omega arith)) (a .pre .1)
+    part-fits (numberText (getD (now (a .args .words)) (l .i) 0) 44) _ (l .inv .1) (word-next _ (l .i) (omega arith)) (a .pre .1)
 
 loop-again : tie.Need-loop-again Inv-loop μ-loop
 loop-again c =
-    let put = c .before .before .put-word .ensures in
+    let put = c .before .before .put-number .ensures in
     let l = c .before .before .before .before .before .before .loop in
     let words = now (c .before .before .before .before .before .before .before .before .before .args .words) in
-    (omega arith, part-put (wordOf (getD words (l .i) 0) 44) _ (l .inv .1) (word-next words (l .i) (omega arith)) (put .0) (put .1))
+    (omega arith, part-put (numberText (getD words (l .i) 0) 44) _ (l .inv .1) (word-next words (l .i) (omega arith)) (put .0) (put .1))
 
-put-word-requires-2 : tie.Need-put-word-requires-2 Inv-loop μ-loop
-put-word-requires-2 c κs =
+put-number-requires-2 : tie.Need-put-number-requires-2 Inv-loop μ-loop
+put-number-requires-2 c κs =
     let l = c .before .before .before .loop in
     let a = c .before .before .before .before .before .before in
     omega (arith, l .inv .1, ap length (word-last (now (a .args .words)) (l .i) (omega arith)))
 
 returns : tie.Need-returns Inv-loop μ-loop
 returns c =
-    let put = c .before .before .put-word2 .ensures in
+    let put = c .before .before .put-number2 .ensures in
     let l = c .before .before .before .before .before .before .loop in
     let words = now (c .before .before .before .before .before .before .before .before .before .args .words) in
     let e = word-last words (l .i) (omega arith) in
@@ -54,12 +54,12 @@ put-line-spec =
     (λ c. (omega arith, none-put _ _ _))
     (λ c. omega arith)
     (λ c. omega arith)
-    put-word-requires
+    put-number-requires
     (λ c. omega arith)
     (λ c. omega arith)
     loop-again
     (λ c. omega arith)
     (λ c. omega arith)
-    put-word-requires-2
+    put-number-requires-2
     (λ c. search needs)
     returns)

@@ -1,10 +1,10 @@
 use borrow.Author.Needs.{needs}
 use borrow.Author.Tests.{lt-ltb, le-ltb, le-leb, lt-leb}
-use Rattle.listing.proofs.value_of.Statement.{statement}
-use Rattle.listing.proofs.value_of.Tie as tie
+use Rattle.listing.proofs.hex_value.Statement.{statement}
+use Rattle.listing.proofs.hex_value.Tie as tie
 
-pub value-of-spec : {M : Type 1} → statement M
-value-of-spec =
+pub hex-value-spec : {M : Type 1} → statement M
+hex-value-spec =
     tie.close
     (tie.spec
     (λ c. simp (lt-ltb _ _ (c .if1 .taken)))

@@ -24,7 +24,7 @@ returns : tie.Need-returns Inv-loop μ-loop
 returns c =
     let l = c .before .before .before .before in
     let a = l .before .args in
-    no-digit (a .base) (a .n) (l .loop .i) (l .loop .number) (omega arith) (now (a .line)) (a .at) (rw (c .before .value-of .ensures) at (c .if1 .taken))
+    no-digit (a .base) (a .n) (l .loop .i) (l .loop .number) (omega arith) (now (a .line)) (a .at) (rw (c .before .hex-value .ensures) at (c .if1 .taken))
     ∙ l .loop .inv .2
 
 mul-number : tie.Need-mul-number Inv-loop μ-loop
@@ -37,13 +37,13 @@ add-number : tie.Need-add-number Inv-loop μ-loop
 add-number c =
     let l = c .before .before .before .before in
     let a = l .before .args in
-    record { fits = digit-fits (a .base) (a .n) (l .loop .i) (l .loop .number) (omega arith) (c .before .value-of .result) (l .loop .inv .1) (omega arith) (omega arith) .1 }
+    record { fits = digit-fits (a .base) (a .n) (l .loop .i) (l .loop .number) (omega arith) (c .before .hex-value .result) (l .loop .inv .1) (omega arith) (omega arith) .1 }
 
 loop-again : tie.Need-loop-again Inv-loop μ-loop
 loop-again c =
     let l = c .before .before .before .before in
     let a = l .before .args in
-    let d = c .before .value-of in (
+    let d = c .before .hex-value in (
       omega arith,
       digit-fits (a .base) (a .n) (l .loop .i) (l .loop .number) (omega arith) (d .result) (l .loop .inv .1) (omega arith) (omega arith) .0,
       rw (d .ensures) (digit-read (a .base) (a .n) (l .loop .i) (l .loop .number) (omega arith) (now (a .line)) (a .at) (rw (d .ensures) at (c .if1 .left)) ∙ l .loop .inv .2),

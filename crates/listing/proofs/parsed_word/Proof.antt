@@ -1,10 +1,10 @@
 use borrow.Author.Needs.{needs}
 use borrow.Author.Tests.{eq-eqb, ne-eqb}
-use Rattle.listing.proofs.word_of.Statement.{statement}
-use Rattle.listing.proofs.word_of.Tie as tie
+use Rattle.listing.proofs.parsed_word.Statement.{statement}
+use Rattle.listing.proofs.parsed_word.Tie as tie
 
-pub word-of-spec : {M : Type 1} → statement M
-word-of-spec =
+pub parsed-word-spec : {M : Type 1} → statement M
+parsed-word-spec =
     tie.close
     (tie.spec
     (λ c. search needs)

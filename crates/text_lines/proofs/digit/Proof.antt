@@ -1,12 +1,12 @@
 use native.Mathlib.Omega.{arith}
 use borrow.Author.Needs.{needs}
 use borrow.Author.Tests.{lt-ltb, le-ltb, le-leb, lt-leb}
-use Rattle.text_lines.specs.Digits.{digitOf}
+use Rattle.text_lines.specs.Digits.{hexValue}
 use Rattle.text_lines.proofs.digit.Statement.{statement}
 use Rattle.text_lines.proofs.digit.Tie as tie
 
 pub digit-spec : {M : Type 1} → statement M
-unfolding digitOf
+unfolding hexValue
 digit-spec =
     tie.close
     (tie.spec

@@ -1,6 +1,6 @@
 use borrow.Author.Needs.{needs}
-use Rattle.listing.proofs.rows.program_of.Statement.{statement}
-use Rattle.listing.proofs.rows.program_of.Tie as tie
+use Rattle.listing.proofs.rows.program_counts.Statement.{statement}
+use Rattle.listing.proofs.rows.program_counts.Tie as tie
 
 returns-2 : tie.Need-returns-2
 returns-2 c =
@@ -22,8 +22,8 @@ returns-4 c =
     let s = w .before .before .before in
     simp (← s .before .before .compare .ensures, s .enum-told .given .1, ← w .before .before .number-at .ensures, w .words .given .1, ← r .number-at2 .ensures, c .before .rows .given .1)
 
-pub program-of-spec : {M : Type 1} → statement M
-program-of-spec =
+pub program-counts-spec : {M : Type 1} → statement M
+program-counts-spec =
     tie.close
     (tie.spec
     (λ c κs. search needs)
