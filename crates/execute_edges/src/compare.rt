@@ -12,9 +12,9 @@ const PLACES: usize = 160;
 
 type Places = [u64; PLACES];
 
-type Registers = [u64; 64];
+type Registers = [u64; Cursor::REGS];
 
-type Ram = [u64; 256];
+type Ram = [u64; Cursor::RAM_WORDS];
 
 // The words of a record.
 pub type Record = [u64; 17];
@@ -41,7 +41,7 @@ fn put(cell: Cell, regs: &mut Registers) {
 
 // The registers of which these cells are not 0.
 fn registers(cells: &[Cell]) -> Registers {
-    let mut regs = [0u64; 64];
+    let mut regs = [0u64; Cursor::REGS];
     let mut i = 0;
     while i < cells.len() {
         put(cells[i], &mut regs);

@@ -51,7 +51,7 @@ ghost use Prim.Native.Nat.{_+_, _≤_, _<_};
 ghost use lib.ListN.{length};
 
 // The most words of a program, its rows, and the words of an input.
-const MAX_WORDS: usize = 256;
+const MAX_CASE_WORDS: usize = 256;
 
 const MAX_ROWS: usize = 1024;
 
@@ -65,7 +65,7 @@ const MAX_ROOM: u64 = 8744;
 const PLACES: usize = 8761;
 
 // They are passed as arrays, so that no caller has to prove their lengths.
-type Program = [u32; MAX_WORDS];
+type Program = [u32; MAX_CASE_WORDS];
 
 type Input = [u64; MAX_INPUT];
 
@@ -170,7 +170,7 @@ fn list_line(name: &[u8], line: Line, run: Run) -> Run {
 }
 
 fn expanded(name: &[u8], state: State, program: &[u32], rows: &mut Rows) -> State {
-    let mut starts = [0u64; MAX_WORDS];
+    let mut starts = [0u64; MAX_CASE_WORDS];
     match expand::expand_program(program, rows, &mut starts) {
         Expanded::Rows(n) => state.with_rows(n).with_phase(after_words(state.inputs)),
         Expanded::Refused(_) => give_up(name, state, b"the program is not expanded"),
@@ -193,7 +193,7 @@ fn word_line(
     if word > 0xffff_ffff {
         return give_up(name, state, b"a word of more than 32 bits");
     }
-    if i >= MAX_WORDS {
+    if i >= MAX_CASE_WORDS {
         return give_up(name, state, b"more than 256 words");
     }
     program[i] = word as u32;
@@ -519,7 +519,7 @@ fn check_lines(
 
 fn check_file(fd: i32, name: &[u8]) {
     let mut text = io::large_buffer();
-    let mut program = [0u32; MAX_WORDS];
+    let mut program = [0u32; MAX_CASE_WORDS];
     let mut input = [0u64; MAX_INPUT];
     let mut rows = [0u64; MAX_ROWS];
     let mut records = [GUARD; PLACES];

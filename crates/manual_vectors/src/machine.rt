@@ -22,16 +22,16 @@ pub const ROW: usize = 322;
 pub const HALTED: usize = 323;
 
 // The most words of a program and its rows, and the most cycles and the words of their records.
-pub const MAX_WORDS: usize = 8;
+pub const MAX_CASE_WORDS: usize = 8;
 
 const MAX_ROWS: usize = 48;
 
-pub const MAX_CYCLES: u64 = 64;
+pub const MAX_CASE_CYCLES: u64 = 64;
 
 const MAX_RECORD_WORDS: usize = 1088;
 
 // They are passed as arrays, so that no caller has to prove their lengths.
-pub type Program = [u32; MAX_WORDS];
+pub type Program = [u32; MAX_CASE_WORDS];
 
 type Rows = [u64; MAX_ROWS];
 
@@ -133,7 +133,7 @@ pub fn words_of(program: &[u32], count: usize) -> &[u32] {
 
 // Expands a program. A refused one has no rows, and then the call is refused too.
 fn expanded(program: &[u32], rows: &mut Rows) -> usize {
-    let mut starts = [0u64; MAX_WORDS];
+    let mut starts = [0u64; MAX_CASE_WORDS];
     match expand::expand_program(program, rows, &mut starts) {
         Expanded::Rows(n) => n,
         Expanded::Refused(_) => 0,

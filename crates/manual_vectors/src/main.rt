@@ -38,8 +38,8 @@ use edges::with_cell;
 use interp::Cursor;
 use libc::STDERR_FILENO;
 use machine::HALTED;
-use machine::MAX_CYCLES;
-use machine::MAX_WORDS;
+use machine::MAX_CASE_CYCLES;
+use machine::MAX_CASE_WORDS;
 use machine::Machine;
 use machine::Program;
 use machine::ROW;
@@ -85,7 +85,7 @@ impl Run {
     fn none() -> Run {
         Run {
             state: State::none(),
-            program: [0; MAX_WORDS],
+            program: [0; MAX_CASE_WORDS],
             start: edges::fresh(),
             want: Machine::fresh(),
         }
@@ -101,7 +101,7 @@ impl Run {
     }
 
     fn with_word(mut self, i: usize, word: u64) -> Run {
-        if i < MAX_WORDS {
+        if i < MAX_CASE_WORDS {
             self.program[i] = (word % 0x1_0000_0000) as u32;
         }
         self
@@ -223,7 +223,11 @@ fn say_difference(run: Run, said: Said) {
 fn is_case(line: Line) -> bool {
     let words = line.values[0];
     let cycles = line.values[1];
-    line.count == 2 && words > 0 && words <= MAX_WORDS as u64 && cycles > 0 && cycles <= MAX_CYCLES
+    line.count == 2
+        && words > 0
+        && words <= MAX_CASE_WORDS as u64
+        && cycles > 0
+        && cycles <= MAX_CASE_CYCLES
 }
 
 fn case_line(line: Line, state: State) -> Run {
