@@ -1,13 +1,9 @@
 -- What the comparing functions answer. Assumes nothing: these are definitions.
 use Prim.Native.Nat.{ℕ, _+_}
-use mathlib.Core.Bool.{Bool, cond}
+use mathlib.Core.Bool.{cond}
 use mathlib.Core.List.{List, [], _∷_}
 use lib.ListN.{getD}
 use lib.Dec.{eqb}
-
--- a flag as a number
-abbrev pub bitOf : Bool → ℕ
-bitOf b = cond b 1 0
 
 -- the first place from i on that does not hold what `want` has there, or `rest` past it; `found` is what stands from i on
 unfoldable pub differFrom : ℕ → List ℕ → ℕ → List ℕ → ℕ

@@ -3,9 +3,10 @@
 ghost use mathlib.Core.Path.{_≡_};
 ghost use lib.ListN.{getD, take};
 ghost use mathlib.Core.List.{[]};
+ghost use Rattle.interp.specs.Values.{boolWord};
 ghost use Rattle.interp.specs.Machine.{startOf};
 ghost use Rattle.interp.specs.Calls.{outcomeNumber};
-ghost use Rattle.edges.specs.Compare.{bitOf, differFrom};
+ghost use Rattle.edges.specs.Compare.{differFrom};
 ghost use Rattle.edges.specs.Cursors.{cellsOf, markedRegs, markedRam, markedCursor, atRows, withCycles, withReg, withRam, withCell, haltedWith};
 use expand::MicroPc;
 use interp::Cursor;
@@ -34,7 +35,7 @@ pub fn number_of(outcome: Outcome) -> u64
 }
 
 pub fn bit(b: bool) -> u64
-    ensures { λ r. ⌜ r ≡ bitOf b ⌝ }
+    ensures { λ r. ⌜ r ≡ boolWord b ⌝ }
 {
     if b { 1 } else { 0 }
 }

@@ -11,6 +11,9 @@ ghost use Rattle.expand.specs.Claims.{Decides, ExpansionLaws};
 use decode::Inst;
 use decode::Opcode;
 
+// A 64-bit word.
+pub type Word = u64;
+
 // The rows of a register shift: one for each bit of an amount below 64.
 pub const SHIFT_STAGES: usize = 6;
 
@@ -48,7 +51,7 @@ pub struct RomRow {
     pub rs2: usize,
     pub funct3: u32,
     // In two's complement.
-    pub imm: u64,
+    pub imm: Word,
     // The instruction word.
     pub raw: u32,
 }

@@ -9,7 +9,7 @@ use Rattle.interp.specs.declared.Cursor.{Cursor}
 use Rattle.interp.specs.declared.CycleRecord.{CycleRecord}
 use Rattle.interp.specs.Cycle.{aluFlags, stores, Step, live, cycle}
 use Rattle.interp.specs.Calls.{recorded, end}
-use Rattle.interp.specs.Laws.{Running, Laws}
+use Rattle.interp.specs.Laws.{Running, CycleLaws}
 use Rattle.interp.specs.Readings.{Signed}
 use Rattle.interp.specs.Execute.{ExecuteLaws}
 use Rattle.interp.proofs.values.Readings.{signed-claims}
@@ -54,7 +54,7 @@ module _ (rows : List ℕ) where
 
 -- ---- the whole
 
-pub laws : Laws
+pub laws : CycleLaws
 laws =
     record {
       start-sized = start-sized;

@@ -23,7 +23,7 @@ abbrev pub Running : List ℕ → ℕ → Cursor → Type 0
 Running rows n c = (k : ℕ) → k < n → end (live rows) k c .halted ≡ false
 
 -- the contract of `cycle_laws`
-pub record Laws : Type 0 where
+pub record CycleLaws : Type 0 where
   -- the sizes: of the fresh cursor, after a live and a padding cycle, after a call, after execute
   pub start-sized : (input : List ℕ) → Sized (startOf input)
   pub live-sized : (rows : List ℕ) (c : Cursor) → Sized c → Sized (live rows c .after)

@@ -34,8 +34,8 @@ abbrev pub less : ℕ → ℕ → Bool
 less a b = ltb (plus a (2 ^ 63)) (plus b (2 ^ 63))
 
 -- a test's answer as a word
-abbrev pub flag : Bool → ℕ
-flag t = cond t 1 0
+abbrev pub boolWord : Bool → ℕ
+boolWord t = cond t 1 0
 
 -- ---- the ALU
 
@@ -68,7 +68,7 @@ unfoldable pub aluValue : ℕ → ℕ → ℕ → ℕ → ℕ
 aluValue funct3 raw a b =
     cond (eqb funct3 0) (sum raw a b)
     (cond (eqb funct3 1) (shift 1 raw a (b % 64))
-    (cond (eqb funct3 3) (flag (ltb a b))
+    (cond (eqb funct3 3) (boolWord (ltb a b))
     (cond (eqb funct3 4) (bitXor a b)
     (cond (eqb funct3 5) (shift 5 raw a (b % 64))
     (cond (eqb funct3 6) (bitOr a b)

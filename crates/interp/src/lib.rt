@@ -18,8 +18,9 @@ pub use values::signed_readings;
 ghost use mathlib.Core.Path.{_≡_};
 ghost use Rattle.interp.specs.Machine.{startOf};
 ghost use Rattle.interp.specs.Calls.{refusalNumber};
-ghost use Rattle.interp.specs.Laws.{Laws};
+ghost use Rattle.interp.specs.Laws.{CycleLaws};
 use expand::MicroPc;
+use expand::Word;
 
 // The registers: 32 of the architecture, and as many cells again, of which the first takes what is written to x0.
 pub const REGS: usize = 64;
@@ -42,13 +43,13 @@ pub const RECORD_WORDS: usize = 17;
 // The machine between two calls: the source's StreamCursor and ExecState in one.
 pub struct Cursor {
     // x0 to x31; cell 0 holds the accumulator of a shift, cell 32 what is written to x0.
-    pub regs: [u64; Cursor::REGS],
-    pub ram: [u64; Cursor::RAM_WORDS],
+    pub regs: [Word; Cursor::REGS],
+    pub ram: [Word; Cursor::RAM_WORDS],
     pub micro_pc: MicroPc,
     pub cycles: u64,
     pub halted: bool,
     // Register 10 when the machine halted.
-    pub output: u64,
+    pub output: Word,
     // The next_pc of the last cycle, where padding cycles stay.
     pub next_fetch: MicroPc,
 }
@@ -83,21 +84,21 @@ impl Cursor {
 // The record of a cycle. The source's twelve bools are one number, the sum of their bits.
 pub struct CycleRecord {
     pub micro_pc: MicroPc,
-    pub rs1_val: u64,
-    pub rs2_val: u64,
-    pub rd_val: u64,
-    pub rd_old: u64,
+    pub rs1_val: Word,
+    pub rs2_val: Word,
+    pub rd_val: Word,
+    pub rd_old: Word,
     pub rd: usize,
     pub ram_addr: usize,
-    pub ram_word: u64,
-    pub ram_old: u64,
-    pub ram_new: u64,
-    pub store_src: u64,
+    pub ram_word: Word,
+    pub ram_old: Word,
+    pub ram_new: Word,
+    pub store_src: Word,
     pub next_pc: MicroPc,
-    pub alu_a: u64,
-    pub alu_b: u64,
-    pub alu_out: u64,
-    pub shift_out: u64,
+    pub alu_a: Word,
+    pub alu_b: Word,
+    pub alu_out: Word,
+    pub shift_out: Word,
     pub byte_offset: u8,
     pub store_width: u8,
     pub flags: u64,
@@ -183,5 +184,5 @@ pub struct Execution {
 
 // What the crates above use of cycles and calls (specs/Laws.antt). The function does nothing; its contract is the claim.
 pub fn cycle_laws()
-    ensures { λ r. ⌜ Laws ⌝ }
+    ensures { λ r. ⌜ CycleLaws ⌝ }
 {}

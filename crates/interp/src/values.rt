@@ -2,7 +2,7 @@
 // rows are the interpreter's.
 ghost use mathlib.Core.Path.{_≡_};
 ghost use Prim.Native.Nat.{_-_, _*_, _%_, _^_};
-ghost use Rattle.interp.specs.Values.{plus, minus, left, right, signedRight, less, flag, secondOperand, shift, sum, aluValue, upperValue, stageAmount, stageValue, ramAddrOf, byteOffsetOf, byte, half, loadValue, storeWidth, storeValue, branchTaken, quarterOn, rowCount, branchTarget, jalrTarget, linkValue};
+ghost use Rattle.interp.specs.Values.{plus, minus, left, right, signedRight, less, boolWord, secondOperand, shift, sum, aluValue, upperValue, stageAmount, stageValue, ramAddrOf, byteOffsetOf, byte, half, loadValue, storeWidth, storeValue, branchTaken, quarterOn, rowCount, branchTarget, jalrTarget, linkValue};
 ghost use Rattle.interp.specs.Readings.{Signed};
 use expand::MicroPc;
 
@@ -61,8 +61,8 @@ fn signed_less(a: u64, b: u64) -> bool
         < std::num::wrapping_add_u64(b, 0x8000_0000_0000_0000)
 }
 
-fn flag_of(t: bool) -> u64
-    ensures { λ r. ⌜ r ≡ flag t ⌝ }
+fn bool_word(t: bool) -> u64
+    ensures { λ r. ⌜ r ≡ boolWord t ⌝ }
 {
     if t { 1 } else { 0 }
 }
@@ -91,7 +91,7 @@ pub(crate) fn alu_value(funct3: u32, raw: u32, a: u64, b: u64) -> u64
     match funct3 {
         0 => add_or_sub(raw, a, b),
         1 => shift_by(1, raw, a, b),
-        3 => flag_of(a < b),
+        3 => bool_word(a < b),
         4 => a ^ b,
         5 => shift_by(5, raw, a, b),
         6 => a | b,

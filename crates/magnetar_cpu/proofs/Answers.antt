@@ -4,30 +4,30 @@ use mathlib.Core.Logic.{_≢_}
 use mathlib.Core.List.{List}
 use Prim.Native.Nat.{ℕ}
 use borrow.Author.Tests.{ne-eqb}
-use Rattle.expand.specs.Expand.{numberOf, Told, toldOf}
+use Rattle.expand.specs.Expand.{expandRefusalNumber, Told, expandToldOf}
 use Rattle.expand.specs.declared.Expanded.{Expanded}
 use Rattle.expand.specs.declared.Expanded.the-variants.{Rows, Refused}
 use Rattle.expand.specs.declared.Refusal.{Refusal}
-use Rattle.expand.specs.declared.Refusal.the-variants.{Empty, TooLong, Short}
+use Rattle.expand.specs.declared.Refusal.the-variants.{NoRows, TooManyRows, Short}
 use Rattle.interp.specs.declared.Cursor.{Cursor}
 use Rattle.magnetar_cpu.specs.Words.{leftAfter, countAfter}
 use Rattle.magnetar_cpu.specs.Image.{imageOf}
 
 -- the number and the count's word, of an answer r that tells t
-module _ (r : Expanded) (t : Told) (count : ℕ) (tells : toldOf r ≡ t) where
+module _ (r : Expanded) (t : Told) (count : ℕ) (tells : expandToldOf r ≡ t) where
   pub accepted : (n : ℕ) → r ≡ Rows n → (0 ≡ t .number) × (n ≡ countAfter t count)
   accepted n e =
-      let h : toldOf (Rows n) ≡ t = ap toldOf (sym e) ∙ tells in
+      let h : expandToldOf (Rows n) ≡ t = ap expandToldOf (sym e) ∙ tells in
       (ap (λ (u : Told). u .number) h, ap (λ (u : Told). countAfter u count) h)
 
-  pub refused : (e : Refusal) → r ≡ Refused e → (numberOf e ≡ t .number) × (count ≡ countAfter t count)
+  pub refused : (e : Refusal) → r ≡ Refused e → (expandRefusalNumber e ≡ t .number) × (count ≡ countAfter t count)
   refused e q =
-      let h : toldOf (Refused e) ≡ t = ap toldOf (sym q) ∙ tells in
+      let h : expandToldOf (Refused e) ≡ t = ap expandToldOf (sym q) ∙ tells in
       (ap (λ (u : Told). u .number) h, kept e ∙ ap (λ (u : Told). countAfter u count) h)
     where
-      kept : (e : Refusal) → count ≡ countAfter (toldOf (Refused e)) count
-      kept Empty = refl
-      kept TooLong = refl
+      kept : (e : Refusal) → count ≡ countAfter (expandToldOf (Refused e)) count
+      kept NoRows = refl
+      kept TooManyRows = refl
       kept Short = refl
 
 -- what `settle` answers and leaves, of an outcome n and a cursor that are known to be those of a call's answer

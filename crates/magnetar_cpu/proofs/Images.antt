@@ -10,7 +10,7 @@ use mir.Val.{boolByte}
 use lib.ListN.{length, take, drop, getD, set, length-drop, drop-of-length-le}
 use lib.Seq.{sets, sets-eq, take-all, getD-drop, paste, paste-suc, length-paste, take-paste}
 use Rattle.interp.specs.declared.Cursor.{Cursor}
-use Rattle.magnetar_cpu.specs.Words.{boolWord}
+use Rattle.interp.specs.Values.{boolWord}
 use Rattle.magnetar_cpu.specs.Image.{imageWords, numbersOf, imageOf}
 
 -- one more word copied, from place a of s to place b of d

@@ -8,11 +8,11 @@ use lib.Dec.{eqb, eqb·suc-zero}
 use lib.ListN.{length, take, drop, getD, length-append, length-take, length-drop, take-append-drop, drop-of-length-le}
 use lib.Seq.{take-append-le, drop-append-le, getD-append-add, drop-cons, take-add, take-at, drop-at}
 use Rattle.interp.specs.declared.Cursor.{Cursor}
+use Rattle.interp.specs.Values.{boolWord}
 use Rattle.interp.specs.Machine.{startOf}
 use Rattle.interp.specs.Calls.{Call, refusalOf, settled, answerOf, added, last, log}
 use Rattle.interp.specs.Laws.{Sized}
 use Rattle.interp.proofs.Above.{laws}
-use Rattle.magnetar_cpu.specs.Words.{boolWord}
 use Rattle.magnetar_cpu.specs.Image.{imageWords, cursorOf, numbersOf, imageOf, imageAfter}
 use Rattle.magnetar_cpu.specs.Claims.{lastImage, imageLog, Kept, ImageLaws}
 

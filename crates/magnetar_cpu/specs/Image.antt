@@ -6,10 +6,11 @@ use mathlib.Core.List.{List, [], _∷_, _++_}
 use lib.Dec.{eqb}
 use lib.ListN.{take, drop, getD}
 use Rattle.interp.specs.declared.Cursor.{Cursor}
+use Rattle.interp.specs.Values.{boolWord}
 use Rattle.interp.specs.Machine.{at}
 use Rattle.interp.specs.Calls.{Answered}
 use Rattle.interp.specs.Execute.{Executed}
-use Rattle.magnetar_cpu.specs.Words.{boolWord, leftAfter}
+use Rattle.magnetar_cpu.specs.Words.{leftAfter}
 
 -- the words of an image
 abbrev pub imageWords : ℕ

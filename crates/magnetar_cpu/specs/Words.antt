@@ -1,13 +1,9 @@
 -- What the functions of the C interface answer and leave, in plain words. Assumes nothing: these are definitions.
 use Prim.Native.Nat.{ℕ}
-use mathlib.Core.Bool.{Bool, cond}
+use mathlib.Core.Bool.{cond}
 use lib.Dec.{eqb}
 use Rattle.expand.specs.Expand.{Told}
 use Rattle.interp.specs.Execute.{Executed}
-
--- a truth value as a word
-abbrev pub boolWord : Bool → ℕ
-boolWord b = cond b 1 0
 
 -- what stands behind a lent pointer after a call that answers this number: if it is 0 the new content, else the old
 abbrev pub leftAfter : {A : Type 0} → ℕ → A → A → A

@@ -5,13 +5,14 @@ ghost use mathlib.Core.Path.{_≡_};
 ghost use Prim.Native.Nat.{_+_, _≤_};
 ghost use lib.ListN.{length, drop};
 ghost use lib.Seq.{paste};
-ghost use Rattle.expand.specs.Expand.{answerOf, rowsAfter, startsAfter, isExpansion};
+ghost use Rattle.expand.specs.Expand.{expandAnswerOf, rowsAfter, startsAfter, isExpansion};
+ghost use Rattle.interp.specs.Values.{boolWord};
 ghost use Rattle.interp.specs.Machine.{startOf};
 ghost use Rattle.interp.specs.Calls.{segment, padded, outcomeNumber};
 ghost use Rattle.interp.specs.Calls as calls;
 ghost use Rattle.interp.specs.Execute.{executeOf};
 ghost use Rattle.checkpoint.specs.Checkpoint.{sameOf};
-ghost use Rattle.magnetar_cpu.specs.Words.{boolWord, leftAfter, countAfter, liveAfter, recordCountAfter};
+ghost use Rattle.magnetar_cpu.specs.Words.{leftAfter, countAfter, liveAfter, recordCountAfter};
 ghost use Rattle.magnetar_cpu.specs.Image.{imageWords, cursorOf, imageOf, imageAfter, executedImage};
 ghost use Rattle.magnetar_cpu.specs.Claims.{ImageLaws};
 use expand::Expanded;
@@ -44,8 +45,8 @@ pub extern "C" fn magnetar_expand(
     starts: &mut [u64],
     count: &mut u64,
 ) -> u64
-    ensures answer { λ r. ⌜ r ≡ answerOf (now (program .entry)) (now (rows .entry)) (now (starts .entry)) .number ⌝ }
-    ensures count { λ r. ⌜ now (count .exit) ≡ countAfter (answerOf (now (program .entry)) (now (rows .entry)) (now (starts .entry))) (now (count .entry)) ⌝ }
+    ensures answer { λ r. ⌜ r ≡ expandAnswerOf (now (program .entry)) (now (rows .entry)) (now (starts .entry)) .number ⌝ }
+    ensures count { λ r. ⌜ now (count .exit) ≡ countAfter (expandAnswerOf (now (program .entry)) (now (rows .entry)) (now (starts .entry))) (now (count .entry)) ⌝ }
     ensures rows { λ r. ⌜ now (rows .exit) ≡ rowsAfter (now (program .entry)) (now (rows .entry)) (now (starts .entry)) ⌝ }
     ensures starts { λ r. ⌜ now (starts .exit) ≡ startsAfter (now (program .entry)) (now (rows .entry)) (now (starts .entry)) ⌝ }
 {

@@ -7,11 +7,10 @@ use lib.Pow.{mod-mod-pow, mod-pow-add, shr-shr}
 use borrow.Author.Tests.{ne-eqb}
 use Rattle.decode.specs.Manual as manual
 use Rattle.decode.specs.Manual.{Major, number, bits, signed, I-immediate, Word}
-use Rattle.decode.proofs.Agrees.{signed-low, signed-high}
 use Rattle.interp.specs.Values.{secondOperand, sum, shiftAt, aluValue}
 use Rattle.rv64i.specs.Manual.{low, Immediate, ADDI, SLTIU, XORI, ORI, ANDI, immediate, Operation, ADD, SUB, SLTU, XOR, OR, AND, operation, ConstantShift, SLLI, SRLI, SRAI, constant-shift, shamt, Encoded7, IsImmediate, IsConstantShift, IsOperation, i-immediate}
 use Rattle.rv64i.specs.Agreement.{most}
-use Rattle.rv64i.proofs.Words.{lt-or-ge, minus-is, signed-right-is}
+use Rattle.rv64i.proofs.Words.{lt-or-ge, minus-is, signed-right-is, signed-low, signed-high}
 
 -- opcode number and funct7, as the values look at them
 pub number-of : {m : Major} {inst : ℕ} → Word m inst → inst % 2 ^ 7 ≡ number m

@@ -11,7 +11,7 @@ use lib.IntN.{ℤ}
 use Rattle.decode.specs.Manual as manual
 use Rattle.decode.specs.Manual.{Major, LOAD, OP-IMM, STORE, OP, LUI, BRANCH, rs1, rs2, bits, signed, I-immediate, S-immediate, B-immediate, U-immediate, Word}
 use Rattle.decode.specs.Decode.{decodeOf}
-use Rattle.decode.specs.Claims.{numberOf, classOf, op-imm, load as load-type, lui as lui-type}
+use Rattle.decode.specs.Claims.{opcodeNumber, classOf, op-imm, load as load-type, lui as lui-type}
 use Rattle.decode.specs.declared.Inst.{Inst}
 use Rattle.decode.proofs.Agrees.{agreement as encoding}
 use Rattle.expand.specs.Rows.{shifts, aluRow, loadRow, storeRow, branchRow, upperRow, rowAs, rowOfInst}
@@ -76,7 +76,7 @@ module _ (rows : List ℕ) (inst : ℕ) (c : Cursor) (h : At rows inst c) where
   second-lt = h .typed .reg-words (rs2 inst)
 
   -- the cycle of a word of a class other than Op, whose immediate reads as z
-  single : (m : Major) (z : ℤ) → Word m inst → eqb (numberOf (classOf m inst)) 0x33 ≡ false → signed 64 (decodeOf inst .imm) ≡ z
+  single : (m : Major) (z : ℤ) → Word m inst → eqb (opcodeNumber (classOf m inst)) 0x33 ≡ false → signed 64 (decodeOf inst .imm) ≡ z
       → Took rows inst c (stepAt (rowOfInst (fields (classOf m inst) (low z) inst) 0) (length rows) c)
   single m z w n e =
       took rows inst c _ h (w .fits) (no-shift m inst w n)

@@ -12,7 +12,7 @@ use borrow.Author.Tests.{eqb-true}
 use Rattle.decode.specs.Manual as manual
 use Rattle.decode.specs.Manual.{OP, Word}
 use Rattle.decode.specs.Decode.{decodeOf}
-use Rattle.decode.specs.Claims.{numberOf}
+use Rattle.decode.specs.Claims.{opcodeNumber}
 use Rattle.decode.specs.declared.Opcode.the-variants.{Invalid}
 use Rattle.decode.proofs.Laws.{laws as decoded}
 use Rattle.decode.proofs.Agrees.{agreement as encoded}
@@ -88,9 +88,9 @@ both false b e = absurd (false≢true e)
 register-shift : (inst : ℕ) → inst < 2 ^ 32 → isRegShift inst ≡ true → Word OP inst × (shifts (manual.funct3 inst) ≡ true)
 unfolding isRegShift
 register-shift inst f e =
-    let p = both (eqb (numberOf (decodeOf inst .opcode)) 0x33) (shifts (decodeOf inst .funct3)) e in
-    let n : numberOf (decodeOf inst .opcode) ≡ 0x33 = eqb-true _ _ (p .0) in
-    let known : decodeOf inst .opcode ≡ Invalid → ⊥ = λ i. omega (arith, n, ap numberOf i) in
+    let p = both (eqb (opcodeNumber (decodeOf inst .opcode)) 0x33) (shifts (decodeOf inst .funct3)) e in
+    let n : opcodeNumber (decodeOf inst .opcode) ≡ 0x33 = eqb-true _ _ (p .0) in
+    let known : decodeOf inst .opcode ≡ Invalid → ⊥ = λ i. omega (arith, n, ap opcodeNumber i) in
     let o : inst % 2 ^ 7 ≡ 0x33 = decoded .number inst known ∙ n in
     (record { fits = f; has = omega arith }, ap shifts (sym (encoded .funct3 inst)) ∙ p .1)
 

@@ -10,7 +10,6 @@ use lib.IntN.{ℤ, pos, negsuc, _-ℤ_}
 use lib.Signed.{ltZ, leZ, shrZ}
 use borrow.Author.Tests.{ltb-true, ltb-false, lt-ltb, le-ltb, le-leb, lt-leb}
 use Rattle.decode.specs.Manual.{signed}
-use Rattle.decode.proofs.Agrees.{signed-low, signed-high}
 use Rattle.interp.specs.Values as value
 use Rattle.interp.specs.Values.{minus, signedRight}
 use Rattle.interp.specs.Readings.{signedWord}
@@ -26,6 +25,19 @@ lt-or-ge a b = by (ltb a b) refl
     by false e = inr (ltb-false a b e)
 
 -- ---- signed numbers
+
+difference-high : (a b : ℕ) → a < b → pos a -ℤ pos b ≡ negsuc (b - suc a)
+difference-high a zero h = absurd (omega arith)
+difference-high a (suc b) h = rw (lt-ltb a (suc b) h)
+
+-- the reading of k bits, without and with the sign set
+pub signed-low : (k x : ℕ) → x < 2 ^ (k - 1) → signed k x ≡ pos x
+unfolding signed
+signed-low k x l = rw (lt-ltb x (2 ^ (k - 1)) l)
+
+pub signed-high : (k x : ℕ) → 2 ^ (k - 1) ≤ x → x < 2 ^ k → signed k x ≡ negsuc (2 ^ k - suc x)
+unfolding signed
+signed-high k x l u = rw (le-ltb x (2 ^ (k - 1)) l) (difference-high x (2 ^ k) u)
 
 -- the manual's reading of a word is that of the values' claims
 same-reading : (x : ℕ) → signed 64 x ≡ signedWord x
@@ -48,10 +60,6 @@ low-signed x h =
     (lt-or-ge x (2 ^ 63))
 
 -- ---- the difference
-
-difference-high : (a b : ℕ) → a < b → pos a -ℤ pos b ≡ negsuc (b - suc a)
-difference-high a zero h = absurd (omega arith)
-difference-high a (suc b) h = rw (lt-ltb a (suc b) h)
 
 difference-low : (a b : ℕ) → b ≤ a → pos a -ℤ pos b ≡ pos (a - b)
 difference-low a zero h = ap pos (omega arith)

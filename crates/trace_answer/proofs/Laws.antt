@@ -13,7 +13,7 @@ use lib.Seq.{drop-cons, set-at, take-at}
 use borrow.Author.Tests.{ltb-false, le-ltb, ne-eqb}
 use Rattle.expand.specs.declared.Refusal.{Refusal as NoProgram}
 use Rattle.expand.specs.declared.Expanded.the-variants.{Rows, Refused}
-use Rattle.expand.specs.Expand.{expansionOf, refusalOf, answerOf, rowsAfter, numberOf as programNumber, toldOf as expandedOf}
+use Rattle.expand.specs.Expand.{expansionOf, expandRefusalOf, expandAnswerOf, rowsAfter, expandRefusalNumber as programNumber, expandToldOf as expandedOf}
 use Rattle.expand.proofs.Laws.{laws as expanded}
 use Rattle.interp.specs.declared.Refusal.{Refusal}
 use Rattle.interp.specs.Machine.{startOf}
@@ -123,28 +123,28 @@ told-accepted e h = rw (sym h)
 module _ (program rows starts : List ℕ) where
   -- a program that is not too long and has words is not refused
   taken-on : (length program ≡ 0 → ⊥) → length program ≤ 1022 → length rows ≡ 6132 → length starts ≡ 1022
-      → refusalOf program (length rows) (length starts) ≡ 0
-  unfolding refusalOf
+      → expandRefusalOf program (length rows) (length starts) ≡ 0
+  unfolding expandRefusalOf
   taken-on some h r s =
       let most = expanded .at-most-six program in
       rw (ne-eqb _ _ some, le-ltb 1048576 (length program) (omega arith), le-ltb (length rows) (length (expansionOf program)) (omega arith), le-ltb (length starts) (length program) (omega arith))
 
   -- what an accepted call answers and leaves
-  pub accepted-count : (n : ℕ) → expandedOf (Rows n) ≡ answerOf program rows starts → n ≡ length (expansionOf program)
+  pub accepted-count : (n : ℕ) → expandedOf (Rows n) ≡ expandAnswerOf program rows starts → n ≡ length (expansionOf program)
   accepted-count n e =
-      let zero-is : 0 ≡ refusalOf program (length rows) (length starts) = ap (λ t. t .number) e in
+      let zero-is : 0 ≡ expandRefusalOf program (length rows) (length starts) = ap (λ t. t .number) e in
       ap (λ t. t .count) e ∙ rw (sym zero-is) refl
 
-  pub accepted-rows : (n : ℕ) → expandedOf (Rows n) ≡ answerOf program rows starts → take n (rowsAfter program rows starts) ≡ expansionOf program
+  pub accepted-rows : (n : ℕ) → expandedOf (Rows n) ≡ expandAnswerOf program rows starts → take n (rowsAfter program rows starts) ≡ expansionOf program
   accepted-rows n e =
-      let zero-is : 0 ≡ refusalOf program (length rows) (length starts) = ap (λ t. t .number) e in
+      let zero-is : 0 ≡ expandRefusalOf program (length rows) (length starts) = ap (λ t. t .number) e in
       rw (sym zero-is) (take-at (expansionOf program) _ n (sym (accepted-count n e)))
 
 -- a program that is refused has no words, and so no rows for execute
 pub told-no-program : (program rows starts : List ℕ) (why : NoProgram) (input : List ℕ) (max : ℕ) (b : List ℕ)
-    → length program ≤ 1022 → length rows ≡ 6132 → length starts ≡ 1022 → expandedOf (Refused why) ≡ answerOf program rows starts
+    → length program ≤ 1022 → length rows ≡ 6132 → length starts ≡ 1022 → expandedOf (Refused why) ≡ expandAnswerOf program rows starts
     → toldOf (executeOf (expansionOf program) input max b) ≡ refusedText (programNumber why)
-unfolding toldOf executeOf answered expansionOf refusalOf
+unfolding toldOf executeOf answered expansionOf expandRefusalOf
 told-no-program [] rows starts why input max b h r s e = rw (ap (λ t. t .number) e)
 told-no-program (raw ∷ program) rows starts why input max b h r s e =
     let zero-is = taken-on (raw ∷ program) rows starts (λ z. omega (arith, z)) h r s in

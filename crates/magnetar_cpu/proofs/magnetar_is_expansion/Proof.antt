@@ -1,6 +1,6 @@
 use mathlib.Core.Path.{sym, ap, _∙_}
 use borrow.Author.Needs.{needs}
-use Rattle.magnetar_cpu.specs.Words.{boolWord}
+use Rattle.interp.specs.Values.{boolWord}
 use Rattle.magnetar_cpu.proofs.magnetar_is_expansion.Statement.{statement}
 use Rattle.magnetar_cpu.proofs.magnetar_is_expansion.Tie as tie
 

@@ -2,7 +2,7 @@
 use mathlib.Core.Path.{sym, ap, ap₂, _∙_}
 use borrow.Author.Needs.{needs}
 use Rattle.checkpoint.specs.Checkpoint.{sameOf}
-use Rattle.magnetar_cpu.specs.Words.{boolWord}
+use Rattle.interp.specs.Values.{boolWord}
 use Rattle.magnetar_cpu.proofs.magnetar_same.Statement.{statement}
 use Rattle.magnetar_cpu.proofs.magnetar_same.Tie as tie
 

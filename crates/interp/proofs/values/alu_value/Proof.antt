@@ -15,7 +15,7 @@ alu-value-spec =
     (λ c κs. search needs)
     (λ c. rw (c .before .match .keys1) (c .add-or-sub .ensures))
     (λ c. rw (c .before .match .keys2) (c .shift-by .ensures))
-    (λ c. rw (c .before .match .keys3) (c .flag-of .ensures))
+    (λ c. rw (c .before .match .keys3) (c .bool-word .ensures))
     (λ c. rw (c .match .keys4))
     (λ c. rw (c .before .match .keys5) (c .shift-by2 .ensures))
     (λ c. rw (c .match .keys6))
