@@ -4,6 +4,7 @@ use edges::GUARD;
 use edges::bit;
 use edges::number_of;
 use edges::say_differs;
+use interp::Cursor;
 use interp::Execution;
 use report::say;
 use report::say_number;
