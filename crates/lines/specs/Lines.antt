@@ -22,9 +22,9 @@ digits (suc k) n = cond (ltb n 10) ((48 + n) ∷ []) (digits k (n / 10) ++ ((48 
 abbrev pub decimal : ℕ → List ℕ
 decimal n = digits 20 n
 
--- a word, and the character behind it
+-- the decimal digits of a number, and the character behind them
 unfoldable pub numberText : ℕ → ℕ → List ℕ
-numberText word mark = decimal word ++ (mark ∷ [])
+numberText n mark = decimal n ++ (mark ∷ [])
 
 -- a line: a comma (44) between the words, a line feed (10) at the end
 unfoldable pub lineOf : List ℕ → List ℕ

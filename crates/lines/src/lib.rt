@@ -37,12 +37,12 @@ fn put_decimal(n: u64, at: usize, out: &mut [u8]) -> usize
     last + 1
 }
 
-// A word and the character behind it.
-fn put_number(word: u64, mark: u8, at: usize, out: &mut [u8]) -> usize
-    requires { ⌜ at + length (numberText word mark) ≤ length (now out) ⌝ }
-    ensures { λ r. ⌜ (r ≡ at + length (numberText word mark)) × (now (out .exit) ≡ sets (now (out .entry)) at (numberText word mark)) ⌝ }
+// A number and the character behind it.
+fn put_number(n: u64, mark: u8, at: usize, out: &mut [u8]) -> usize
+    requires { ⌜ at + length (numberText n mark) ≤ length (now out) ⌝ }
+    ensures { λ r. ⌜ (r ≡ at + length (numberText n mark)) × (now (out .exit) ≡ sets (now (out .entry)) at (numberText n mark)) ⌝ }
 {
-    let last = put_decimal(word, at, out);
+    let last = put_decimal(n, at, out);
     out[last] = mark;
     last + 1
 }
