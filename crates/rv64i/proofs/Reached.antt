@@ -51,8 +51,8 @@ next-from k (raw ∷ next ∷ program) zero l = refl
 next-from k (raw ∷ next ∷ program) (suc i) l = next-from (k + cycles raw) (next ∷ program) i (omega arith)
 
 -- a start is a row
-start-lt : (program : List ℕ) (i : ℕ) → i < length program → getD (startsOf program) i 0 < length (expansionOf program)
-start-lt program i l =
+start-below : (program : List ℕ) (i : ℕ) → i < length program → getD (startsOf program) i 0 < length (expansionOf program)
+start-below program i l =
     omega (
       arith,
       ap length (expanded .at-start program i l),
@@ -65,7 +65,7 @@ next-row : (program : List ℕ) (i : ℕ) (c : Cursor) → suc i < length progra
 next-row program i c l e =
     ap (λ (k : ℕ). (k + cycles (getD program i 0)) % length (expansionOf program)) e
     ∙ ap (λ (k : ℕ). k % length (expansionOf program)) (sym (next-from 0 program i l))
-    ∙ mod-eq-of-lt (start-lt program (suc i) l)
+    ∙ mod-eq-of-lt (start-below program (suc i) l)
 
 -- ---- the fresh cursor
 
@@ -118,6 +118,7 @@ premises =
     record {
       first-row = first-row;
       next-word = next-from 0;
+      start-below = start-below;
       next-row = next-row;
       fresh-row = fresh-row;
       fresh-zero = fresh-zero;

@@ -186,7 +186,8 @@ pub record Premises : Type 0 where
       → ZeroCell c → Typed c → At (expansionOf program) (getD program i 0) c
   pub next-word : (program : List ℕ) (i : ℕ) → suc i < length program
       → getD (startsOf program) (suc i) 0 ≡ getD (startsOf program) i 0 + cycles (getD program i 0)
-  -- that first row is one of the rows, so `next` of a word is the next word's start
+  -- a word's start is below the row count, so `next` of a word is the next word's start
+  pub start-below : (program : List ℕ) (i : ℕ) → i < length program → getD (startsOf program) i 0 < length (expansionOf program)
   pub next-row : (program : List ℕ) (i : ℕ) (c : Cursor) → suc i < length program → c .«micro_pc» .0 ≡ getD (startsOf program) i 0
       → next (expansionOf program) (getD program i 0) c ≡ getD (startsOf program) (suc i) 0
   -- a fresh cursor is at the first word, and its cell 0 is zero
