@@ -6,7 +6,6 @@ use mathlib.Core.Bool.{Bool, true, false, cond, _&&_, _||_}
 use mathlib.Core.List.{List}
 use lib.ListN.{length, set}
 use lib.Dec.{eqb}
-use Rattle.interp.specs.Values.{plus, minus, registerForm, secondOperand, alternate, aluValue, stageValue, ramAddrOf, byteOffsetOf, loadValue, storeWidth, storeValue, branchTaken, branchTarget, jalrTarget, linkValue, upperValue}
 use Rattle.expand.specs.declared.MicroPc.{MicroPc}
 use Rattle.expand.specs.declared.RomRow.{RomRow}
 use Rattle.expand.specs.declared.VirtualKind.{VirtualKind}
@@ -21,6 +20,7 @@ use Rattle.interp.specs.declared.effect.Shown.{Shown}
 use Rattle.interp.specs.declared.effect.Write.{Write}
 use Rattle.interp.specs.Flags as flag
 use Rattle.interp.specs.Machine.{rowAt, at, cell}
+use Rattle.interp.specs.Values.{plus, minus, registerForm, secondOperand, alternate, aluValue, stageValue, ramAddrOf, byteOffsetOf, loadValue, storeWidth, storeValue, branchTaken, branchTarget, jalrTarget, linkValue, upperValue}
 
 -- "next": the row after mp is (mp + 1) mod rows
 abbrev pub rowAfter : MicroPc → ℕ → MicroPc

@@ -1,9 +1,10 @@
-// The values that the arms of magnetar-cpu's interp.rs compute, on u64 words. No machine is in it: registers, RAM and
-// rows are the interpreter's.
+// The values that the arms of magnetar-cpu's interp.rs compute, on words. No function here reads a register, a RAM word or a
+// row: the arms do.
 ghost use mathlib.Core.Path.{_≡_};
 ghost use Prim.Native.Nat.{_-_, _*_, _%_, _^_};
 ghost use Rattle.interp.specs.Values.{plus, minus, left, right, signedRight, less, boolWord, secondOperand, shift, sum, aluValue, upperValue, stageAmount, stageValue, ramAddrOf, byteOffsetOf, byte, half, loadValue, storeWidth, storeValue, branchTaken, quarterOn, rowCount, branchTarget, jalrTarget, linkValue};
 ghost use Rattle.interp.specs.Readings.{Signed};
+use crate::Cursor;
 use expand::MicroPc;
 
 // The contract of std's function gives a from the answer; this one gives the answer.
@@ -139,7 +140,7 @@ pub(crate) fn address_of(a: u64, imm: u64) -> u64
 pub(crate) fn ram_addr_of(address: u64) -> usize
     ensures { λ r. ⌜ r ≡ ramAddrOf address ⌝ }
 {
-    (address / 8 % 256) as usize
+    (address / 8) as usize % Cursor::RAM_WORDS
 }
 
 pub(crate) fn byte_offset_of(address: u64) -> u8
