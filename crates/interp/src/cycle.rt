@@ -178,8 +178,7 @@ fn commit(
     ensures { λ r. ⌜ whole r (now (regs .exit)) (now (ram .exit)) ≡ commit row (whole core (now (regs .entry)) (now (ram .entry))) e .after ⌝ }
     ensures { λ _. ⌜ now (out .exit) ≡ words (commit row (whole core (now (regs .entry)) (now (ram .entry))) e .shown) ⌝ }
 {
-    let at = core.micro_pc;
-    put_effect(row, at, e, regs, ram, out);
+    put_effect(row, core.micro_pc, e, regs, ram, out);
     let scratch = e.scratch;
     hold(scratch, regs);
     let next = e.next_pc;
@@ -219,8 +218,7 @@ pub(crate) fn live_cycle(
     ensures { λ r. ⌜ whole r (now (regs .exit)) (now (ram .exit)) ≡ stepAt row count (whole core (now (regs .entry)) (now (ram .entry))) .after ⌝ }
     ensures { λ _. ⌜ now (out .exit) ≡ words (stepAt row count (whole core (now (regs .entry)) (now (ram .entry))) .shown) ⌝ }
 {
-    let mp = core.micro_pc;
-    let next = next_row(mp, count);
+    let next = next_row(core.micro_pc, count);
     let kind = row.kind;
     match kind {
         VirtualKind::Alu => commit(row, core, alu_arm(row, next, regs), regs, ram, out),
@@ -240,15 +238,36 @@ pub(crate) fn live_cycle(
             commit(
                 row,
                 core,
-                branch_arm(row, mp, count, next, regs),
+                branch_arm(row, core.micro_pc, count, next, regs),
                 regs,
                 ram,
                 out,
             )
         }
-        VirtualKind::Upper => commit(row, core, upper_arm(row, mp, next, regs), regs, ram, out),
-        VirtualKind::Jump => commit(row, core, jump_arm(row, mp, count, regs), regs, ram, out),
-        VirtualKind::System => commit(row, core, system_arm(row, mp, regs), regs, ram, out),
+        VirtualKind::Upper => commit(
+            row,
+            core,
+            upper_arm(row, core.micro_pc, next, regs),
+            regs,
+            ram,
+            out,
+        ),
+        VirtualKind::Jump => commit(
+            row,
+            core,
+            jump_arm(row, core.micro_pc, count, regs),
+            regs,
+            ram,
+            out,
+        ),
+        VirtualKind::System => commit(
+            row,
+            core,
+            system_arm(row, core.micro_pc, regs),
+            regs,
+            ram,
+            out,
+        ),
     }
 }
 
@@ -264,7 +283,6 @@ pub(crate) fn padding_cycle(
     ensures { λ _. ⌜ whole core (now (regs .exit)) (now (ram .exit)) ≡ frozenAt row (whole core (now (regs .entry)) (now (ram .entry))) .after ⌝ }
     ensures { λ _. ⌜ now (out .exit) ≡ words (frozenAt row (whole core (now (regs .entry)) (now (ram .entry))) .shown) ⌝ }
 {
-    let at = core.next_fetch;
-    let e = padding_arm(row, at, core.output, regs);
-    put_effect(row, at, e, regs, ram, out);
+    let e = padding_arm(row, core.next_fetch, core.output, regs);
+    put_effect(row, core.next_fetch, e, regs, ram, out);
 }

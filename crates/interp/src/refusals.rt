@@ -74,9 +74,7 @@ pub(crate) fn judge_cycles(
 ) -> Outcome
     ensures { λ r. ⌜ outcomeNumber r ≡ lowest (callLines count c «is_segment» n room) ⌝ }
 {
-    let pc = c.micro_pc;
-    let fetch = c.next_fetch;
-    if is_outside(pc, fetch, count) {
+    if is_outside(c.micro_pc, c.next_fetch, count) {
         return Outcome::Refused(Refusal::OutsideRows);
     }
     if is_too_long(is_segment, c.cycles, n) {

@@ -83,9 +83,7 @@ fn run_live(
     let mut i: usize = 0;
     loop {
         let over = is_over(core.halted, i, limit);
-        let fetch = core.next_fetch;
-        let pc = core.micro_pc;
-        let at = fetch_row(over, fetch, pc).0;
+        let at = fetch_row(over, core.next_fetch, core.micro_pc).0;
         let row = expand::rom_row(rows[at]);
         if over {
             return Stopped {
@@ -147,12 +145,10 @@ fn pad_rest(
     ensures { λ _. ⌜ whole (stopped .core) (now (regs .exit)) (now (ram .exit)) ≡ end (frozenAt (stopped .row)) (due - stopped .count) (whole (stopped .core) (now (regs .entry)) (now (ram .entry))) ⌝ }
     ensures { λ _. ⌜ now (records .exit) ≡ take (17 * stopped .count) (now (records .entry)) ++ (flat (recorded (frozenAt (stopped .row)) (due - stopped .count) (whole (stopped .core) (now (regs .entry)) (now (ram .entry)))) ++ drop (17 * due) (now (records .entry))) ⌝ }
 {
-    let row = stopped.row;
-    let core = stopped.core;
     let base = RECORD_WORDS * stopped.count;
     run_padding(
-        row,
-        core,
+        stopped.row,
+        stopped.core,
         due - stopped.count,
         regs,
         ram,
@@ -232,8 +228,7 @@ pub(crate) fn run_padded(
     let stopped = run_live(rows, start, limit, &mut regs, &mut ram, records);
     let count = due_of(due, stopped.count);
     pad_rest(stopped, count, &mut regs, &mut ram, records);
-    let core = stopped.core;
-    let after = whole_of(core, regs, ram);
+    let after = whole_of(stopped.core, regs, ram);
     Execution {
         outcome: Outcome::Accepted,
         live_count: stopped.count as u64,

@@ -11,7 +11,7 @@ use Rattle.interp.proofs.cycle.padding_cycle.Tie as tie
 
 put-effect-requires : tie.Need-put-effect-requires
 put-effect-requires c κs =
-    let start = c .before .before .before .before .before .before .before in
+    let start = c .before .before .before .before .before .before in
     let a = start .args in
     let at = a .core .«next_fetch» in
     let sound = padding-lawful (a .row) at (suc (at .0)) (now (a .regs)) (start .pre .0 .rd) (omega arith) (a .core .output) .sound in

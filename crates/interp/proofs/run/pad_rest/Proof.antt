@@ -14,9 +14,10 @@ use Rattle.interp.proofs.run.pad_rest.Tie as tie
 
 returns : tie.Need-returns
 returns c =
-    let a = c .before .before .before .before .before .before .before .before .before .before .before .args in
+    let start = c .before .before .before .before .before .before .before .before .before in
+    let a = start .args in
     let k = a .stopped .count in
-    let m : 17 * k + 17 * (a .due - k) ≡ 17 * a .due = omega (arith, c .before .before .before .before .before .before .before .before .before .before .before .pre .1 .0) in
+    let m : 17 * k + 17 * (a .due - k) ≡ 17 * a .due = omega (arith, start .pre .1 .0) in
     let done = c .before .before .run-padding .ensures in
     (done .0, rest-back (now (a .records)) (17 * k) (flat (recorded (frozenAt (a .stopped .row)) (a .due - k) (whole (a .stopped .core) (now (a .regs)) (now (a .ram))))) (17 * (a .due - k)) _ (done .1) ∙ rw m refl)
 

@@ -29,10 +29,10 @@ Inv-loop rows limit regs₀ ram₀ records₀ core₀ i₀ regs ram records core
 abbrev μ-loop : tie.MeasureT-loop
 μ-loop rows limit regs₀ ram₀ records₀ core₀ i₀ regs ram records core i = limit - i
 
-at-in : (c : tie.After-fetch-row Inv-loop μ-loop) → c .fetch-row .result .0 < length (now (c .before .before .before .before .before .before .before .before .args .rows))
+at-in : (c : tie.After-fetch-row Inv-loop μ-loop) → c .fetch-row .result .0 < length (now (c .before .before .before .before .before .before .args .rows))
 at-in c =
-    let at-loop = c .before .before .before .before .loop in
-    rw (c .fetch-row .ensures) (next-of (c .before .before .before .is-over .result) (at-loop .inv .0 .fetch) (at-loop .inv .0 .pc))
+    let at-loop = c .before .before .loop in
+    rw (c .fetch-row .ensures) (next-of (c .before .is-over .result) (at-loop .inv .0 .fetch) (at-loop .inv .0 .pc))
 
 loop-holds : tie.Need-loop-holds Inv-loop μ-loop
 unfolding end recorded flat
@@ -45,14 +45,14 @@ loop-holds c =
 
 -- the machine is running
 running : (c : tie.Else1 Inv-loop μ-loop)
-    → (c .before .before .before .before .before .before .before .loop .core .halted ≡ false) × (c .before .before .before .before .before .before .before .loop .i < c .before .before .before .before .before .before .before .before .before .before .before .args .limit)
-running c = not-over _ _ _ (sym (c .before .before .before .before .before .before .is-over .ensures) ∙ c .if1 .left) (c .before .before .before .before .before .before .before .loop .inv .1 .upto)
+    → (c .before .before .before .before .before .loop .core .halted ≡ false) × (c .before .before .before .before .before .loop .i < c .before .before .before .before .before .before .before .before .before .args .limit)
+running c = not-over _ _ _ (sym (c .before .before .before .before .is-over .ensures) ∙ c .if1 .left) (c .before .before .before .before .before .loop .inv .1 .upto)
 
 -- the next record lies within the buffer
 in-room : (c : tie.Else1 Inv-loop μ-loop)
-    → (17 * c .before .before .before .before .before .before .before .loop .i + 17 ≤ length (c .before .before .before .before .before .before .before .loop .records)) × (length (c .before .before .before .before .before .before .before .loop .records) * 8 < 2 ^ 63)
+    → (17 * c .before .before .before .before .before .loop .i + 17 ≤ length (c .before .before .before .before .before .loop .records)) × (length (c .before .before .before .before .before .loop .records) * 8 < 2 ^ 63)
 in-room c =
-    let going = c .before .before .before .before .before .before .before .loop .inv .1 in
+    let going = c .before .before .before .before .before .loop .inv .1 in
     (omega (arith, running c .1, going .room, going .long), omega (arith, going .long, going .small))
 
 mul-rom-row : tie.Need-mul-rom-row Inv-loop μ-loop
@@ -62,18 +62,18 @@ shared-slice-read-rom-row : tie.Need-shared-slice-read-rom-row Inv-loop μ-loop
 shared-slice-read-rom-row c = at-in (c .before)
 
 same-length : tie.Need-same-length Inv-loop μ-loop
-same-length c = c .before .before .before .before .before .before .before .loop .inv .1 .long
+same-length c = c .before .before .before .before .before .loop .inv .1 .long
 
 returns : tie.Need-returns Inv-loop μ-loop
 returns c =
-    let start = c .before .before .before .before .before .before .before .before .before .before .before in
-    let at-loop = c .before .before .before .before .before .before .before .loop in
+    let start = c .before .before .before .before .before .before .before .before .before in
+    let at-loop = c .before .before .before .before .before .loop in
     let rows = now (start .args .rows) in
-    let none = count-over rows (at-loop .i) (start .args .limit) (whole (at-loop .core) (at-loop .regs) (at-loop .ram)) (sym (c .before .before .before .before .before .before .is-over .ensures) ∙ c .if1 .taken) in
-    let c₀ = whole (c .before .before .before .before .before .before .before .before .afresh .result) (now (start .args .regs)) (now (start .args .ram)) in
+    let none = count-over rows (at-loop .i) (start .args .limit) (whole (at-loop .core) (at-loop .regs) (at-loop .ram)) (sym (c .before .before .before .before .is-over .ensures) ∙ c .if1 .taken) in
+    let c₀ = whole (c .before .before .before .before .before .before .afresh .result) (now (start .args .regs)) (now (start .args .ram)) in
     let taken : at-loop .i ≡ liveCount rows (start .args .limit) c₀ = omega (arith, at-loop .inv .0 .counted, none) in
     let row : c .before .rom-row .result ≡ rowAt rows (at-loop .core .«next_fetch» .0) = c .before .rom-row .ensures ∙ rw (c .before .before .before .fetch-row .ensures, c .if1 .taken) refl in
-    rw (sym (c .before .before .before .before .before .before .before .before .afresh .ensures)) (
+    rw (sym (c .before .before .before .before .before .before .afresh .ensures)) (
       taken,
       (
         row,
@@ -104,7 +104,7 @@ part-live-cycle-end c = omega (arith, in-room (c .before .before))
 
 live-cycle-requires : tie.Need-live-cycle-requires Inv-loop μ-loop
 live-cycle-requires c κs =
-    let at-loop = c .before .before .before .before .before .before .before .before .before .before .loop in
+    let at-loop = c .before .before .before .before .before .before .before .before .loop in
     let lt = running (c .before .before .before) .1 in
     (rw (c .before .before .before .before .rom-row .ensures) (row-in _), (omega (arith, at-loop .inv .0 .few lt, lt), (at-loop .inv .0 .pc, simp (length-take, length-drop) (omega (arith, in-room (c .before .before .before))))))
 
@@ -117,8 +117,8 @@ loop-less c = omega (arith, running (c .before .before .before .before .before .
 loop-again : tie.Need-loop-again Inv-loop μ-loop
 unfolding live
 loop-again c =
-    let start = c .before .before .before .before .before .before .before .before .before .before .before .before .before .before .before .before .before .before in
-    let at-loop = c .before .before .before .before .before .before .before .before .before .before .before .before .before .before .loop in
+    let start = c .before .before .before .before .before .before .before .before .before .before .before .before .before .before .before .before in
+    let at-loop = c .before .before .before .before .before .before .before .before .before .before .before .before .loop in
     let rows = now (start .args .rows) in
     let now-at = whole (at-loop .core) (at-loop .regs) (at-loop .ram) in
     let run = running (c .before .before .before .before .before .before .before) in

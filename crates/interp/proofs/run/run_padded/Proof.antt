@@ -33,15 +33,15 @@ pad-rest-requires c κs =
 
 returns : tie.Need-returns
 returns c =
-    let start = c .before .before .before .before .before .before .before .before .before .before .before .before .before .before .before .before .before .before .before .before in
+    let start = c .before .before .before .before .before .before .before .before .before .before .before .before .before .before .before .before .before .before .before in
     let a = start .args in
     let rows = now (a .rows) in
-    let stopped = c .before .before .before .before .before .before .before .before .before .before .before .run-live .result in
-    let ran = rw (c .before .before .before .before .before .before .before .before .before .before .before .before .before .before .before .core-of .ensures) at (c .before .before .before .before .before .before .before .before .before .before .before .run-live .ensures) in
-    let due = c .before .before .before .before .before .before .before .before .due-of .result in
-    let due-is : due ≡ dueOf (a .due) (liveCount rows (a .limit) (a .cursor)) = c .before .before .before .before .before .before .before .before .due-of .ensures ∙ ap (dueOf (a .due)) (ran .0) in
-    let enough : stopped .count ≤ due = omega (arith, c .before .before .before .before .before .before .before .before .due-of .ensures, start .pre .1 .enough _ (most (c .before .before .before .before .before .before .before .before .before .before .before))) in
-    let pad = c .before .before .before .before .pad-rest .ensures in (
+    let stopped = c .before .before .before .before .before .before .before .before .before .before .run-live .result in
+    let ran = rw (c .before .before .before .before .before .before .before .before .before .before .before .before .before .before .core-of .ensures) at (c .before .before .before .before .before .before .before .before .before .before .run-live .ensures) in
+    let due = c .before .before .before .before .before .before .before .due-of .result in
+    let due-is : due ≡ dueOf (a .due) (liveCount rows (a .limit) (a .cursor)) = c .before .before .before .before .before .before .before .due-of .ensures ∙ ap (dueOf (a .due)) (ran .0) in
+    let enough : stopped .count ≤ due = omega (arith, c .before .before .before .before .before .before .before .due-of .ensures, start .pre .1 .enough _ (most (c .before .before .before .before .before .before .before .before .before .before))) in
+    let pad = c .before .before .before .pad-rest .ensures in (
       refl,
       (
         ran .0,
