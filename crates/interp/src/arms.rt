@@ -307,9 +307,14 @@ pub(crate) fn system_arm(row: RomRow, mp: MicroPc, regs: &[u64; Cursor::REGS]) -
         rd_old: old,
     };
     let shown = showing(a, b, output, 0, CycleRecord::HALTED_LATCH);
-    let mut e = plain(write, no_access(), shown, mp);
-    e.halts = true;
-    e
+    Effect {
+        write: write,
+        access: no_access(),
+        shown: shown,
+        scratch: Scratch::Kept,
+        next_pc: mp,
+        halts: true,
+    }
 }
 
 // What a padding cycle does: the arm of `frozen_record`.

@@ -6,7 +6,7 @@ use Rattle.interp.proofs.arms.system_arm.Tie as tie
 
 returns : tie.Need-returns
 unfolding systemArm
-returns c = simp (c .plain .ensures, c .before .no-access .ensures, c .before .before .showing .ensures)
+returns c = simp (c .no-access .ensures, c .before .showing .ensures)
 
 pub system-arm-spec : {M : Type 1} → statement M
 system-arm-spec =
@@ -18,7 +18,6 @@ system-arm-spec =
     (λ c. search needs)
     (λ c. search needs)
     (λ c. search needs)
-    (λ c κs. search needs)
     (λ c κs. search needs)
     (λ c κs. search needs)
     returns)
