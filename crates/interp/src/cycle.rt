@@ -218,56 +218,24 @@ pub(crate) fn live_cycle(
     ensures { λ r. ⌜ whole r (now (regs .exit)) (now (ram .exit)) ≡ stepAt row count (whole core (now (regs .entry)) (now (ram .entry))) .after ⌝ }
     ensures { λ _. ⌜ now (out .exit) ≡ words (stepAt row count (whole core (now (regs .entry)) (now (ram .entry))) .shown) ⌝ }
 {
-    let next = next_row(core.micro_pc, count);
+    let mp = core.micro_pc;
+    let next = next_row(mp, count);
     let kind = row.kind;
     match kind {
         VirtualKind::Alu => commit(row, core, alu_arm(row, next, regs), regs, ram, out),
         VirtualKind::ShiftStage { stage } => {
-            commit(
-                row,
-                core,
-                stage_arm(stage, row, next, accumulator(regs), regs),
-                regs,
-                ram,
-                out,
-            )
+            let e = stage_arm(stage, row, next, accumulator(regs), regs);
+            commit(row, core, e, regs, ram, out)
         }
         VirtualKind::Load => commit(row, core, load_arm(row, next, regs, ram), regs, ram, out),
         VirtualKind::Store => commit(row, core, store_arm(row, next, regs, ram), regs, ram, out),
         VirtualKind::Branch => {
-            commit(
-                row,
-                core,
-                branch_arm(row, core.micro_pc, count, next, regs),
-                regs,
-                ram,
-                out,
-            )
+            let e = branch_arm(row, mp, count, next, regs);
+            commit(row, core, e, regs, ram, out)
         }
-        VirtualKind::Upper => commit(
-            row,
-            core,
-            upper_arm(row, core.micro_pc, next, regs),
-            regs,
-            ram,
-            out,
-        ),
-        VirtualKind::Jump => commit(
-            row,
-            core,
-            jump_arm(row, core.micro_pc, count, regs),
-            regs,
-            ram,
-            out,
-        ),
-        VirtualKind::System => commit(
-            row,
-            core,
-            system_arm(row, core.micro_pc, regs),
-            regs,
-            ram,
-            out,
-        ),
+        VirtualKind::Upper => commit(row, core, upper_arm(row, mp, next, regs), regs, ram, out),
+        VirtualKind::Jump => commit(row, core, jump_arm(row, mp, count, regs), regs, ram, out),
+        VirtualKind::System => commit(row, core, system_arm(row, mp, regs), regs, ram, out),
     }
 }
 

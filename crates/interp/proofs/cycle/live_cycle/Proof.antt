@@ -24,61 +24,61 @@ may-commit start e h =
     (start .pre .0, (rw h (lawful .sound), (start .pre .1 .0, start .pre .1 .1 .1)))
 
 -- what each arm answers is that effect
-alu-is : (c : tie.After-alu-arm) → c .alu-arm .result ≡ the-effect (c .before .before .before .before .before .before)
+alu-is : (c : tie.After-alu-arm) → c .alu-arm .result ≡ the-effect (c .before .before .before .before .before .before .before)
 unfolding armOf
 alu-is c = simp (c .before .before .enum-told .given .1, c .alu-arm .ensures, c .before .before .before .before .next-row .ensures)
 
-stage-is : (c : tie.After-stage-arm) → c .stage-arm .result ≡ the-effect (c .before .before .before .before .before .before .before .before .before)
+stage-is : (c : tie.After-stage-arm) → c .stage-arm .result ≡ the-effect (c .before .before .before .before .before .before .before .before .before .before)
 unfolding armOf
 stage-is c = simp (c .before .before .before .before .before .kind .given .1, c .stage-arm .ensures, c .before .before .accumulator .ensures, c .before .before .before .before .before .before .before .next-row .ensures)
 
-load-is : (c : tie.After-load-arm) → c .load-arm .result ≡ the-effect (c .before .before .before .before .before .before .before)
+load-is : (c : tie.After-load-arm) → c .load-arm .result ≡ the-effect (c .before .before .before .before .before .before .before .before)
 unfolding armOf
 load-is c = simp (c .before .before .before .enum-told2 .given .1, c .load-arm .ensures, c .before .before .before .before .before .next-row .ensures)
 
-store-is : (c : tie.After-store-arm) → c .store-arm .result ≡ the-effect (c .before .before .before .before .before .before .before)
+store-is : (c : tie.After-store-arm) → c .store-arm .result ≡ the-effect (c .before .before .before .before .before .before .before .before)
 unfolding armOf
 store-is c = simp (c .before .before .before .enum-told3 .given .1, c .store-arm .ensures, c .before .before .before .before .before .next-row .ensures)
 
-branch-is : (c : tie.After-branch-arm) → c .branch-arm .result ≡ the-effect (c .before .before .before .before .before .before)
+branch-is : (c : tie.After-branch-arm) → c .branch-arm .result ≡ the-effect (c .before .before .before .before .before .before .before)
 unfolding armOf
 branch-is c = simp (c .before .before .enum-told4 .given .1, c .branch-arm .ensures, c .before .before .before .before .next-row .ensures)
 
-upper-is : (c : tie.After-upper-arm) → c .upper-arm .result ≡ the-effect (c .before .before .before .before .before .before)
+upper-is : (c : tie.After-upper-arm) → c .upper-arm .result ≡ the-effect (c .before .before .before .before .before .before .before)
 unfolding armOf
 upper-is c = simp (c .before .before .enum-told5 .given .1, c .upper-arm .ensures, c .before .before .before .before .next-row .ensures)
 
-jump-is : (c : tie.After-jump-arm) → c .jump-arm .result ≡ the-effect (c .before .before .before .before .before .before)
+jump-is : (c : tie.After-jump-arm) → c .jump-arm .result ≡ the-effect (c .before .before .before .before .before .before .before)
 unfolding armOf
 jump-is c = simp (c .before .before .enum-told6 .given .1, c .jump-arm .ensures)
 
-system-is : (c : tie.After-system-arm) → c .system-arm .result ≡ the-effect (c .before .before .before .before .before .before)
+system-is : (c : tie.After-system-arm) → c .system-arm .result ≡ the-effect (c .before .before .before .before .before .before .before)
 unfolding armOf
 system-is c = simp (c .before .before .enum-told7 .given .1, c .system-arm .ensures)
 
 commit-requires : tie.Need-commit-requires
-commit-requires c κs = may-commit (c .before .before .before .before .before .before .before .before .before) _ (alu-is (c .before .before .before))
+commit-requires c κs = may-commit (c .before .before .before .before .before .before .before .before .before .before) _ (alu-is (c .before .before .before))
 
 commit-requires-2 : tie.Need-commit-requires-2
-commit-requires-2 c κs = may-commit (c .before .before .before .before .before .before .before .before .before .before .before .before) _ (stage-is (c .before .before .before))
+commit-requires-2 c κs = may-commit (c .before .before .before .before .before .before .before .before .before .before .before .before .before) _ (stage-is (c .before .before .before))
 
 commit-requires-3 : tie.Need-commit-requires-3
-commit-requires-3 c κs = may-commit (c .before .before .before .before .before .before .before .before .before .before) _ (load-is (c .before .before .before))
+commit-requires-3 c κs = may-commit (c .before .before .before .before .before .before .before .before .before .before .before) _ (load-is (c .before .before .before))
 
 commit-requires-4 : tie.Need-commit-requires-4
-commit-requires-4 c κs = may-commit (c .before .before .before .before .before .before .before .before .before .before) _ (store-is (c .before .before .before))
+commit-requires-4 c κs = may-commit (c .before .before .before .before .before .before .before .before .before .before .before) _ (store-is (c .before .before .before))
 
 commit-requires-5 : tie.Need-commit-requires-5
-commit-requires-5 c κs = may-commit (c .before .before .before .before .before .before .before .before .before) _ (branch-is (c .before .before .before))
+commit-requires-5 c κs = may-commit (c .before .before .before .before .before .before .before .before .before .before) _ (branch-is (c .before .before .before))
 
 commit-requires-6 : tie.Need-commit-requires-6
-commit-requires-6 c κs = may-commit (c .before .before .before .before .before .before .before .before .before) _ (upper-is (c .before .before .before))
+commit-requires-6 c κs = may-commit (c .before .before .before .before .before .before .before .before .before .before) _ (upper-is (c .before .before .before))
 
 commit-requires-7 : tie.Need-commit-requires-7
-commit-requires-7 c κs = may-commit (c .before .before .before .before .before .before .before .before .before) _ (jump-is (c .before .before .before))
+commit-requires-7 c κs = may-commit (c .before .before .before .before .before .before .before .before .before .before) _ (jump-is (c .before .before .before))
 
 commit-requires-8 : tie.Need-commit-requires-8
-commit-requires-8 c κs = may-commit (c .before .before .before .before .before .before .before .before .before) _ (system-is (c .before .before .before))
+commit-requires-8 c κs = may-commit (c .before .before .before .before .before .before .before .before .before .before) _ (system-is (c .before .before .before))
 
 returns : tie.Need-returns
 unfolding stepAt
