@@ -1,6 +1,6 @@
 -- Demand 3, as claims over lists of calls (01, "Joined log and replay"). `startOf` is of Machine; `log`, `last`, `total` and
 -- `segments` are of Calls, over the answers that the calls' contracts give; `replay` is of Replay. The function `demand_3` of
--- src/lib.rt has the whole for its contract. Assumes nothing: these are definitions.
+-- src/calls.rt has the whole for its contract. Assumes nothing: these are definitions.
 use Prim.Native.Nat.{ℕ, _*_, _≤_, _<_}
 use mathlib.Core.Path.{_≡_}
 use mathlib.Core.Logic.{_≢_}
