@@ -11,14 +11,14 @@ use report::say;
 use report::say_number;
 ghost use Prim.Native.Nat.{_≤_, _<_};
 
-pub const PLACES: usize = 160;
+pub(crate) const PLACES: usize = 160;
 
 // It is passed as an array, so that no caller has to prove its length.
-pub type Places = [u64; PLACES];
+pub(crate) type Places = [u64; PLACES];
 
-pub type Record = [u64; 17];
+pub(crate) type Record = [u64; 17];
 
-pub enum Kind {
+pub(crate) enum Kind {
     Segment,
     Padding,
 }
@@ -86,7 +86,7 @@ fn say_compared(number: u64, places: bool, cursor: bool) {
 }
 
 // Runs a call that is lent the first `room` places of a buffer. Answers the cursor that it returns.
-pub fn check(
+pub(crate) fn check(
     name: &[u8],
     kind: Kind,
     rows: &[u64],
@@ -117,12 +117,12 @@ pub fn check(
 }
 
 // The places of a buffer to which nothing is written.
-pub fn no_record() -> Places {
+pub(crate) fn no_record() -> Places {
     [GUARD; PLACES]
 }
 
 // Puts in the words of record `i`.
-pub fn put(places: &mut Places, i: usize, record: &Record)
+pub(crate) fn put(places: &mut Places, i: usize, record: &Record)
     requires { ⌜ i < 9 ⌝ }
 {
     for j in 0..17 {
@@ -132,7 +132,7 @@ pub fn put(places: &mut Places, i: usize, record: &Record)
 
 // A call that is refused with a number, and keeps the cursor and the buffer; or that is accepted with
 // length 0.
-pub fn keeps(
+pub(crate) fn keeps(
     name: &[u8],
     kind: Kind,
     rows: &[u64],
@@ -148,7 +148,7 @@ pub fn keeps(
 }
 
 // Both calls, likewise.
-pub fn both_keep(name: &[u8], rows: &[u64], cursor: Cursor, n: u64, room: usize, number: u64)
+pub(crate) fn both_keep(name: &[u8], rows: &[u64], cursor: Cursor, n: u64, room: usize, number: u64)
     requires { ⌜ room ≤ 160 ⌝ }
 {
     keeps(name, Kind::Segment, rows, cursor, n, room, number);
@@ -156,7 +156,7 @@ pub fn both_keep(name: &[u8], rows: &[u64], cursor: Cursor, n: u64, room: usize,
 }
 
 // A call of one cycle that is lent exactly the words of its record.
-pub fn one(
+pub(crate) fn one(
     name: &[u8],
     kind: Kind,
     rows: &[u64],
@@ -170,7 +170,7 @@ pub fn one(
 }
 
 // A call of two cycles, likewise.
-pub fn two(
+pub(crate) fn two(
     name: &[u8],
     kind: Kind,
     rows: &[u64],
