@@ -10,7 +10,7 @@ use lib.ListN.{length, drop, getD, set, replicate, drop-of-length-le}
 use lib.Seq.{drop-cons}
 use lib.Dec.{eqb, ltb}
 use borrow.Author.Tests.{eq-eqb, ne-eqb, lt-ltb, le-ltb, le-leb, lt-leb}
-use Rattle.text_lines.specs.Digits.{hexValue}
+use Rattle.listing.specs.Lines.{hexValue}
 use Rattle.calls.specs.declared.Number.{Number}
 use Rattle.calls.specs.Parse.{numberUpTo, noNumber, digitsFrom, plain, spacedNumber, callLine, badLine, lineFrom, parsed, cellPlace}
 

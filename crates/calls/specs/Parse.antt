@@ -4,7 +4,7 @@ use mathlib.Core.Bool.{Bool, not, cond, _&&_}
 use mathlib.Core.List.{List, [], _∷_}
 use lib.ListN.{length, drop, getD, set, replicate}
 use lib.Dec.{eqb, ltb, leb}
-use Rattle.text_lines.specs.Digits.{hexValue}
+use Rattle.listing.specs.Lines.{hexValue}
 use Rattle.calls.specs.declared.Line.{Line}
 use Rattle.calls.specs.declared.Number.{Number}
 

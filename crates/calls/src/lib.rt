@@ -1,10 +1,10 @@
 // Takes a list of calls apart, line by line. A line is a letter and then numbers in lower-case
 // hexadecimal digits, without leading zeros and with a single space before each.
 use edges::CELLS;
+use listing::hex_value;
 use text_lines::Next;
 use text_lines::Text;
 use text_lines::Unread;
-use text_lines::digit;
 ghost use mathlib.Core.Path.{_≡_};
 ghost use Prim.Native.Nat.{_≤_};
 ghost use lib.ListN.{length, drop};
@@ -61,14 +61,14 @@ fn digits_at(line: &[u8], at: usize) -> Number
     let mut value: u64 = 0;
     let mut i = at;
     while i < line.len() {
-        let d = digit(line[i]);
+        let d = hex_value(line[i]);
         if d == 16 {
             return Number { value, after: i };
         }
         if value >= 0x1000_0000_0000_0000 {
             return no_number();
         }
-        value = value * 16 + d;
+        value = value * 16 + d as u64;
         i += 1;
     }
     Number {
@@ -90,7 +90,7 @@ fn number_at(line: &[u8], at: usize) -> Number
     if rest[0] != b' ' {
         return no_number();
     }
-    if digit(rest[1]) == 16 {
+    if hex_value(rest[1]) == 16 {
         return no_number();
     }
     let number = digits_at(line, at + 1);

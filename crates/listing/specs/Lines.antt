@@ -71,7 +71,7 @@ wordLineOf raw = lineOfInst (decodeOf raw)
 -- ---- the numbers of a line
 
 -- the value of a lower-case hex digit's character, and 16 for any other
-abbrev pub hexValue : ℕ → ℕ
+unfoldable pub hexValue : ℕ → ℕ
 hexValue c = cond (ltb c 48) 16 (cond (leb c 57) (c - 48) (cond (ltb c 97) 16 (cond (leb c 102) (c - 87) 16)))
 
 -- n and the digits at the next `left` places, as one number; Bad where one is no digit of the base

@@ -170,9 +170,10 @@ pub fn word_line_of(raw: u32) -> [u8; 48]
     line
 }
 
-// The value of a lower-case hex digit, and 16 for any other character.
-fn hex_value(b: u8) -> u32
-    ensures { λ r. ⌜ r ≡ hexValue b ⌝ }
+// The value of a lower-case hexadecimal digit, and 16 for any other character.
+pub fn hex_value(b: u8) -> u32
+    ensures value { λ r. ⌜ r ≡ hexValue b ⌝ }
+    ensures bound { λ r. ⌜ r ≤ 16 ⌝ }
 {
     if b < b'0' {
         return 16;

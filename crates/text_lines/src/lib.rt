@@ -3,7 +3,6 @@ use input::Filled;
 ghost use mathlib.Core.Path.{_≡_};
 ghost use Prim.Native.Nat.{_≤_, _<_};
 ghost use lib.ListN.{length};
-ghost use Rattle.text_lines.specs.Digits.{hexValue};
 
 // The part of a file that was read last. It is passed as an array, so that no caller has to prove its
 // length.
@@ -43,23 +42,6 @@ impl Unread {
     {
         Unread { at: 0, end: 0 }
     }
-}
-
-// The value of a lower-case hexadecimal digit, and 16 for any other character.
-pub fn digit(b: u8) -> u64
-    ensures value { λ r. ⌜ r ≡ hexValue b ⌝ }
-    ensures bound { λ r. ⌜ r ≤ 16 ⌝ }
-{
-    if b < b'0' {
-        return 16;
-    }
-    if b <= b'9' {
-        return b as u64 - 48;
-    }
-    if b < b'a' {
-        return 16;
-    }
-    if b <= b'f' { b as u64 - 87 } else { 16 }
 }
 
 // How many bytes stand before the first line feed; all of them, where there is none.

@@ -9,6 +9,7 @@
 mod state;
 
 use libc::STDERR_FILENO;
+use listing::hex_value;
 use report::say;
 use report::say_differs;
 use state::State;
@@ -18,7 +19,6 @@ use state::wrong;
 use text_lines::Next;
 use text_lines::Text;
 use text_lines::Unread;
-use text_lines::digit;
 ghost use Prim.Native.Nat.{_≤_};
 ghost use lib.ListN.{length};
 
@@ -51,11 +51,11 @@ fn say_made(text: &[u8]) {
 }
 
 // The byte that two digits give; 256 where one is none.
-fn byte_of(first: u8, second: u8) -> u64
+fn byte_of(first: u8, second: u8) -> u32
     ensures { λ r. ⌜ r ≤ 256 ⌝ }
 {
-    let high = digit(first);
-    let low = digit(second);
+    let high = hex_value(first);
+    let low = hex_value(second);
     if high == 16 {
         return 256;
     }

@@ -20,14 +20,14 @@ returns : tie.Need-returns Inv-loop μ-loop
 returns c =
     let a = c .before .before .before .before .before .before .args in
     let at = c .before .before .before .before .loop in
-    let end = digits-end (now (a .line)) (at .value) (at .i) (c .before .digit .result) (omega arith) (c .before .digit .ensures .0) (c .if1 .taken) in
+    let end = digits-end (now (a .line)) (at .value) (at .i) (c .before .hex-value .result) (omega arith) (c .before .hex-value .ensures .0) (c .if1 .taken) in
     (sym end ∙ at .inv .1, at .inv .0)
 
 returns-2 : tie.Need-returns-2 Inv-loop μ-loop
 returns-2 c =
     let a = c .before .before .before .before .before .before .before .before .args in
     let at = c .before .before .before .before .before .before .loop in
-    let digit = c .before .before .before .digit in
+    let digit = c .before .before .before .hex-value in
     let large = digits-large (now (a .line)) (at .value) (at .i) (digit .result) (omega arith) (digit .ensures .0) (c .before .before .if1 .left) (c .before .if2 .taken) in
     (c .no-number .ensures ∙ sym large ∙ at .inv .1, omega (arith, ap (λ (n : Number). n .after) (c .no-number .ensures)))
 
@@ -35,7 +35,7 @@ loop-again : tie.Need-loop-again Inv-loop μ-loop
 loop-again c =
     let a = c .before .before .before .before .before .before .before .args in
     let at = c .before .before .before .before .before .loop in
-    let digit = c .before .before .digit in
+    let digit = c .before .before .hex-value in
     let on = digits-on (now (a .line)) (at .value) (at .i) (digit .result) (omega arith) (digit .ensures .0) (c .before .if1 .left) (c .if2 .left) in
     (omega arith, sym on ∙ at .inv .1)
 
@@ -58,6 +58,7 @@ digits-at-spec =
     returns
     (λ c κs. search needs)
     returns-2
+    (λ c. search needs)
     (λ c. search needs)
     (λ c. search needs)
     (λ c. search needs)

@@ -38,7 +38,7 @@ returns-3 c =
     let a = c .before .before .before .before .before .before .before .before .before .args in
     let line = now (a .line) in
     let none = c .no-number3 .ensures in
-    let digit = c .before .before .digit in
+    let digit = c .before .before .hex-value in
     let no-digit = digitless (a .at) (rest line (a .at)) (omega arith) (c .before .before .before .before .if2 .left) (sym (digit .ensures .0) ∙ c .before .if3 .taken) in
     (none ∙ sym no-digit ∙ ap (spacedNumber (a .at)) (whole line (a .at)), none-inside (c .no-number3 .result) (length line) none)
 
@@ -47,7 +47,7 @@ digits : (c : tie.After-digits-at) → spacedNumber (c .before .before .before .
 digits c =
     let a = c .before .before .before .before .before .before .before .before .before .args in
     let line = now (a .line) in
-    let digit = c .before .before .digit in
+    let digit = c .before .before .hex-value in
     let behind = ap (drop 1) (whole line (a .at)) ∙ drop-drop 1 (a .at) line in
     ap (spacedNumber (a .at)) (sym (whole line (a .at)))
     ∙ spaced (a .at) (rest line (a .at)) (omega arith) (c .before .before .before .before .if2 .left) (λ e. c .before .if3 .left (digit .ensures .0 ∙ e))

@@ -24,7 +24,7 @@ returns : tie.Need-returns Inv-loop μ-loop
 returns c =
     let l = c .before .before .before .before in
     let a = l .before .args in
-    no-digit (a .base) (a .n) (l .loop .i) (l .loop .number) (omega arith) (now (a .line)) (a .at) (rw (c .before .hex-value .ensures) at (c .if1 .taken))
+    no-digit (a .base) (a .n) (l .loop .i) (l .loop .number) (omega arith) (now (a .line)) (a .at) (rw (c .before .hex-value .ensures .0) at (c .if1 .taken))
     ∙ l .loop .inv .2
 
 mul-number : tie.Need-mul-number Inv-loop μ-loop
@@ -46,7 +46,7 @@ loop-again c =
     let d = c .before .hex-value in (
       omega arith,
       digit-fits (a .base) (a .n) (l .loop .i) (l .loop .number) (omega arith) (d .result) (l .loop .inv .1) (omega arith) (omega arith) .0,
-      rw (d .ensures) (digit-read (a .base) (a .n) (l .loop .i) (l .loop .number) (omega arith) (now (a .line)) (a .at) (rw (d .ensures) at (c .if1 .left)) ∙ l .loop .inv .2),
+      rw (d .ensures .0) (digit-read (a .base) (a .n) (l .loop .i) (l .loop .number) (omega arith) (now (a .line)) (a .at) (rw (d .ensures .0) at (c .if1 .left)) ∙ l .loop .inv .2),
     )
 
 returns-2 : tie.Need-returns-2 Inv-loop μ-loop
