@@ -265,7 +265,7 @@ pub(crate) fn link_value(mp: MicroPc) -> u64
     std::num::wrapping_add_u64((mp.0 as u64) << 2, 4)
 }
 
-// The forms that read a word as a signed number, and the six stages as one shift (specs/Claims.antt).
+// The forms that read a word as a signed number, and the six stages as one shift (specs/Readings.antt).
 pub fn signed_readings()
     ensures { λ r. ⌜ Signed ⌝ }
 {}
