@@ -10,7 +10,7 @@ use compare::refuses;
 use compare::runs;
 
 // The most cycles of execute.
-const MOST: u64 = 0x1_0000_0000;
+const MAX_EXECUTE_CYCLES: u64 = 0x1_0000_0000;
 
 // Word 16 of a record: we and is_arith; we; halted_latch; a load of a word; a store of 8 bytes.
 const ADD: u64 = 0x5_0000;
@@ -322,7 +322,13 @@ fn run_damaged() {
 fn run_several() {
     let none = [0u64; 0];
     let damaged = [FIVE, STAGE1];
-    let lengths = [[8, 136], [0, 17], [8, 0], [MOST + 1, 160], [u64::MAX, 0]];
+    let lengths = [
+        [8, 136],
+        [0, 17],
+        [8, 0],
+        [MAX_EXECUTE_CYCLES + 1, 160],
+        [u64::MAX, 0],
+    ];
     refuses(b"no rows", &none, &lengths, 1);
     refuses(b"damaged rows", &damaged, &lengths, 3);
 }
@@ -331,8 +337,8 @@ fn run_several() {
 fn run_lengths() {
     let rows = M1;
     let long = [
-        [MOST + 1, 160],
-        [MOST + 1, 0],
+        [MAX_EXECUTE_CYCLES + 1, 160],
+        [MAX_EXECUTE_CYCLES + 1, 0],
         [u64::MAX, 160],
         [u64::MAX, 0],
     ];
@@ -353,7 +359,14 @@ fn run_short() {
         [8, 135],
     ];
     refuses(b"M1", &rows, &one, 6);
-    let more = [[0, 0], [3, 34], [8, 34], [9, 160], [MOST, 0], [MOST, 160]];
+    let more = [
+        [0, 0],
+        [3, 34],
+        [8, 34],
+        [9, 160],
+        [MAX_EXECUTE_CYCLES, 0],
+        [MAX_EXECUTE_CYCLES, 160],
+    ];
     refuses(b"M1", &rows, &more, 6);
 }
 

@@ -25,7 +25,7 @@ ghost use lib.ListN.{length};
 type Lines = [u8; 65536];
 
 // The row lines that it holds, and so the most words of a program.
-const MAX_ROWS: usize = 1365;
+const MAX_CASE_ROWS: usize = 1365;
 
 // The rows that so many words can have.
 const MAX_EXPANSION: usize = 8190;
@@ -101,7 +101,7 @@ fn read_words(
     tally: Tally,
     lines: &Lines,
     rows: usize,
-    program: &mut [u32; MAX_ROWS],
+    program: &mut [u32; MAX_CASE_ROWS],
 ) -> Words
     requires { ⌜ rows ≤ 1365 ⌝ }
     ensures { λ r. ⌜ r .count ≤ rows ⌝ }
@@ -221,8 +221,8 @@ fn check_exact(
 ) -> Tally
     requires { ⌜ (n ≤ 1365) × (length (now program) ≤ 1365) ⌝ }
 {
-    let mut row_places = [GUARD; MAX_ROWS];
-    let mut start_places = [GUARD; MAX_ROWS];
+    let mut row_places = [GUARD; MAX_CASE_ROWS];
+    let mut start_places = [GUARD; MAX_CASE_ROWS];
     let rows = &mut row_places[0..n];
     let starts = &mut start_places[0..program.len()];
     let Expanded::Rows(count) = expand::expand_program(program, rows, starts) else {
@@ -240,7 +240,7 @@ fn check_expansion(
     tally: Tally,
     lines: &Lines,
     rows: usize,
-    words: &[u32; MAX_ROWS],
+    words: &[u32; MAX_CASE_ROWS],
     count: usize,
 ) -> Tally
     requires { ⌜ (rows ≤ 1365) × (count ≤ 1365) ⌝ }
@@ -272,7 +272,7 @@ fn check_expansion(
 fn check_program(name: &[u8], tally: Tally, words: usize, rows: usize, lines: &Lines) -> Tally
     requires { ⌜ rows ≤ 1365 ⌝ }
 {
-    let mut program = [0u32; MAX_ROWS];
+    let mut program = [0u32; MAX_CASE_ROWS];
     let counted = tally.with_lines(1);
     let read = read_words(name, counted, lines, rows, &mut program);
     let after = read.tally;
@@ -291,7 +291,7 @@ fn check_program(name: &[u8], tally: Tally, words: usize, rows: usize, lines: &L
 
 // Reads the row lines of a program, and checks it.
 fn read_program(fd: i32, name: &[u8], tally: Tally, words: usize, rows: usize) -> Next {
-    if MAX_ROWS < rows {
+    if MAX_CASE_ROWS < rows {
         return Next::Last(wrong_line(name, tally, b"more than 1365 rows"));
     }
     let mut lines = io::large_buffer();

@@ -22,7 +22,7 @@ use interp::Cursor;
 ghost use Prim.Native.Nat.{_≤_};
 
 // The most cycles of a machine.
-const MOST: u64 = 0x4000_0000_0000_0000;
+const MAX_TOTAL_CYCLES: u64 = 0x4000_0000_0000_0000;
 
 // Flags, as word 16 has them: we and is_arith; we; a taken branch; halted_latch.
 const ADD: u64 = 0x5_0000;
@@ -118,8 +118,8 @@ fn run_outside() {
 // Calls of one cycle, up to the most cycles. Padding has no such limit.
 fn run_last_cycle() {
     let rows = M1;
-    let last = with_cycles(marked(), MOST - 1);
-    let live = with_cycles(at(with_reg(last, 10, 5), 1, 1), MOST);
+    let last = with_cycles(marked(), MAX_TOTAL_CYCLES - 1);
+    let live = with_cycles(at(with_reg(last, 10, 5), 1, 1), MAX_TOTAL_CYCLES);
     let name = b"cycles and length 2^62";
     one(name, Kind::Segment, &rows, last, LIVE, live);
     let name = b"halted, cycles and length 2^62";
@@ -148,11 +148,11 @@ fn padding_keeps(name: &[u8], cursor: Cursor, n: u64, room: usize, number: u64)
 }
 
 fn run_past_cycles() {
-    let full = with_cycles(marked(), MOST);
+    let full = with_cycles(marked(), MAX_TOTAL_CYCLES);
     segment_keeps(b"cycles and length 2^62 + 1", full, 1, 17, 5);
     let still = halted(full, 9);
     segment_keeps(b"halted, the same", still, 1, 17, 5);
-    let over = with_cycles(marked(), MOST + 1);
+    let over = with_cycles(marked(), MAX_TOTAL_CYCLES + 1);
     segment_keeps(b"length 0, cycles 2^62 + 1", over, 0, 0, 5);
     let most = with_cycles(marked(), u64::MAX);
     segment_keeps(b"length 0, cycles 2^64 - 1", most, 0, 0, 5);
@@ -162,7 +162,7 @@ fn run_past_cycles() {
 
 // Length 0 is accepted and changes nothing.
 fn run_empty() {
-    let full = with_cycles(marked(), MOST);
+    let full = with_cycles(marked(), MAX_TOTAL_CYCLES);
     segment_keeps(b"length 0, no words lent", marked(), 0, 0, 0);
     padding_keeps(b"length 0, no words lent", marked(), 0, 0, 0);
     segment_keeps(b"length 0, 17 words lent", marked(), 0, 17, 0);
@@ -194,10 +194,10 @@ fn run_lengths() {
     padding_keeps(b"length 2^64 - 1", marked(), most, 160, 6);
     segment_keeps(b"length 2^64 - 2", marked(), most - 1, 160, 5);
     padding_keeps(b"length 2^64 - 2", marked(), most - 1, 160, 6);
-    segment_keeps(b"length 2^62 + 1", none, MOST + 1, 160, 5);
-    padding_keeps(b"length 2^62 + 1", none, MOST + 1, 160, 6);
-    segment_keeps(b"length 2^62, cycles 0", none, MOST, 160, 6);
-    padding_keeps(b"length 2^62, cycles 0", none, MOST, 160, 6);
+    segment_keeps(b"length 2^62 + 1", none, MAX_TOTAL_CYCLES + 1, 160, 5);
+    padding_keeps(b"length 2^62 + 1", none, MAX_TOTAL_CYCLES + 1, 160, 6);
+    segment_keeps(b"length 2^62, cycles 0", none, MAX_TOTAL_CYCLES, 160, 6);
+    padding_keeps(b"length 2^62, cycles 0", none, MAX_TOTAL_CYCLES, 160, 6);
 }
 
 // 17 times such a length is just past a multiple of 2^64, and would seem to fit if it wrapped.

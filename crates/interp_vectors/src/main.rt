@@ -53,7 +53,7 @@ ghost use lib.ListN.{length};
 // The most words of a program, its rows, and the words of an input.
 const MAX_CASE_WORDS: usize = 256;
 
-const MAX_ROWS: usize = 1024;
+const MAX_CASE_ROWS: usize = 1024;
 
 const MAX_INPUT: usize = 512;
 
@@ -69,7 +69,7 @@ type Program = [u32; MAX_CASE_WORDS];
 
 type Input = [u64; MAX_INPUT];
 
-type Rows = [u64; MAX_ROWS];
+type Rows = [u64; MAX_CASE_ROWS];
 
 type Records = [u64; PLACES];
 
@@ -521,7 +521,7 @@ fn check_file(fd: i32, name: &[u8]) {
     let mut text = io::large_buffer();
     let mut program = [0u32; MAX_CASE_WORDS];
     let mut input = [0u64; MAX_INPUT];
-    let mut rows = [0u64; MAX_ROWS];
+    let mut rows = [0u64; MAX_CASE_ROWS];
     let mut records = [GUARD; PLACES];
     check_lines(
         fd,

@@ -24,7 +24,7 @@ pub const HALTED: usize = 323;
 // The most words of a program and its rows, and the most cycles and the words of their records.
 pub const MAX_CASE_WORDS: usize = 8;
 
-const MAX_ROWS: usize = 48;
+const MAX_CASE_ROWS: usize = 48;
 
 pub const MAX_CASE_CYCLES: u64 = 64;
 
@@ -33,7 +33,7 @@ const MAX_RECORD_WORDS: usize = 1088;
 // They are passed as arrays, so that no caller has to prove their lengths.
 pub type Program = [u32; MAX_CASE_WORDS];
 
-type Rows = [u64; MAX_ROWS];
+type Rows = [u64; MAX_CASE_ROWS];
 
 type Records = [u64; MAX_RECORD_WORDS];
 
@@ -168,7 +168,7 @@ fn machine_of(cursor: Cursor, taken: u64) -> Machine {
 
 // Runs a program for the cycles 0 to `last`.
 pub fn run(program: &[u32], start: Cursor, last: u8) -> Machine {
-    let mut rows = [0u64; MAX_ROWS];
+    let mut rows = [0u64; MAX_CASE_ROWS];
     let mut records = [0u64; MAX_RECORD_WORDS];
     let count = expanded(program, &mut rows);
     let answer = called(&rows, count, start, last, &mut records);

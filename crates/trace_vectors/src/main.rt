@@ -23,12 +23,12 @@ ghost use Prim.Native.Nat.{_≤_};
 ghost use lib.ListN.{length};
 
 // The most bytes of an input, and the digits that they have.
-const MAX_BYTES: usize = 4200;
+const MAX_CASE_BYTES: usize = 4200;
 
 const MAX_DIGITS: usize = 8400;
 
 // They are passed as arrays, so that no caller has to prove their lengths.
-type Input = [u8; MAX_BYTES];
+type Input = [u8; MAX_CASE_BYTES];
 
 type Printed = [u8; lines::TEXT];
 
@@ -238,7 +238,7 @@ fn check_lines(fd: i32, name: &[u8], text: &mut Text, input: &mut Input, out: &m
 
 fn check_file(fd: i32, name: &[u8]) {
     let mut text = io::large_buffer();
-    let mut input = [0u8; MAX_BYTES];
+    let mut input = [0u8; MAX_CASE_BYTES];
     let mut out = [0u8; lines::TEXT];
     check_lines(fd, name, &mut text, &mut input, &mut out);
 }
