@@ -12,7 +12,7 @@ use Rattle.interp.specs.declared.effect.Scratch.the-variants.{Kept, Hold
 use Rattle.interp.specs.Machine.{loaded, startOf}
 use Rattle.interp.specs.Cycle.{Step, scratched, regsAfter, stores, ramAfter, commit, stepAt, live, frozenAt, padding, cycle}
 use Rattle.interp.specs.Calls.{end, Call, segment, padded, amount, turn, refusalOf, settled, answerOf}
-use Rattle.interp.specs.Execute.{executed, answered, executeOf}
+use Rattle.interp.specs.Execute.{executed, executionFor, executeOf}
 use Rattle.interp.specs.Laws.{Sized}
 
 -- ---- a cycle
@@ -78,12 +78,12 @@ pub answer-sized : (rows : List ℕ) (c : Cursor) (k : Call) → Sized c → Siz
 unfolding answerOf
 answer-sized rows c k s = settled-sized (refusalOf rows c k) rows c k s
 
-answered-sized : (number : ℕ) (rows input : List ℕ) (max : ℕ) (buffer : List ℕ) → Sized (answered number rows input max buffer .cursor)
-unfolding answered executed
-answered-sized zero rows input max buffer =
+execution-for-sized : (number : ℕ) (rows input : List ℕ) (max : ℕ) (buffer : List ℕ) → Sized (executionFor number rows input max buffer .cursor)
+unfolding executionFor executed
+execution-for-sized zero rows input max buffer =
     end-sized (padding rows) (padding-sized rows) _ _ (end-sized (live rows) (live-sized rows) _ _ (start-sized input))
-answered-sized (suc number) rows input max buffer = start-sized []
+execution-for-sized (suc number) rows input max buffer = start-sized []
 
 pub execute-sized : (rows input : List ℕ) (max : ℕ) (buffer : List ℕ) → Sized (executeOf rows input max buffer .cursor)
 unfolding executeOf
-execute-sized rows input max buffer = answered-sized _ rows input max buffer
+execute-sized rows input max buffer = execution-for-sized _ rows input max buffer

@@ -18,7 +18,7 @@ use Rattle.expand.proofs.Laws.{laws as expanded}
 use Rattle.interp.specs.declared.Refusal.{Refusal}
 use Rattle.interp.specs.Machine.{startOf}
 use Rattle.interp.specs.Calls.{refusalNumber}
-use Rattle.interp.specs.Execute.{Executed, answered, executeOf}
+use Rattle.interp.specs.Execute.{Executed, executionFor, executeOf}
 use Rattle.interp.proofs.Above.{laws, executions}
 use Rattle.lines.specs.Lines.{answerText, refusedText}
 use Rattle.trace_answer.specs.Trace.{wordAt, wordsFrom, inputsFrom, maxCycles, inputCount, malformed, toldOf}
@@ -144,7 +144,7 @@ module _ (program rows starts : List ℕ) where
 pub told-no-program : (program rows starts : List ℕ) (why : NoProgram) (input : List ℕ) (max : ℕ) (b : List ℕ)
     → length program ≤ 1022 → length rows ≡ 6132 → length starts ≡ 1022 → expandedOf (Refused why) ≡ expandAnswerOf program rows starts
     → toldOf (executeOf (expansionOf program) input max b) ≡ refusedText (programNumber why)
-unfolding toldOf executeOf answered expansionOf expandRefusalOf
+unfolding toldOf executeOf executionFor expansionOf expandRefusalOf
 told-no-program [] rows starts why input max b h r s e = rw (ap (λ t. t .number) e)
 told-no-program (raw ∷ program) rows starts why input max b h r s e =
     let zero-is = taken-on (raw ∷ program) rows starts (λ z. omega (arith, z)) h r s in

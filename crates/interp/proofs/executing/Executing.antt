@@ -13,7 +13,7 @@ use Rattle.interp.specs.declared.Cursor.{Cursor}
 use Rattle.interp.specs.Machine.{startOf, flat}
 use Rattle.interp.specs.Cycle.{commit, stepAt, live, frozenAt, padding, cycle}
 use Rattle.interp.specs.Calls.{recorded, end, segment, padded, amount, refusals, Answered, answerOf, counted, added, last, log}
-use Rattle.interp.specs.Execute.{liveCount, liveRecords, stoppedAt, nextPowerOfTwo, lengthLines, executeRefusals, executed, answered, executeOf, Counts, SameAnswer, Joined, ExecuteLaws}
+use Rattle.interp.specs.Execute.{liveCount, liveRecords, stoppedAt, nextPowerOfTwo, lengthLines, executeRefusals, executed, executionFor, executeOf, Counts, SameAnswer, Joined, ExecuteLaws}
 use Rattle.interp.proofs.calls.Runs.{length-words}
 use Rattle.interp.proofs.run.Powers.{smallest}
 use Rattle.interp.proofs.refusals.Judged.{rows-accepted, fits-accepted, accepted-execution, accepted-answer, accepted-is}
@@ -155,21 +155,21 @@ module _ (rows : List ℕ) where
 
 -- ---- the call
 
-answered-number : (number : ℕ) (rows input : List ℕ) (max : ℕ) (b : List ℕ) → answered number rows input max b .number ≡ number
-unfolding answered executed
-answered-number zero rows input max b = refl
-answered-number (suc number) rows input max b = refl
+execution-for-number : (number : ℕ) (rows input : List ℕ) (max : ℕ) (b : List ℕ) → executionFor number rows input max b .number ≡ number
+unfolding executionFor executed
+execution-for-number zero rows input max b = refl
+execution-for-number (suc number) rows input max b = refl
 
-answered-cycles : (number : ℕ) (rows input : List ℕ) (max : ℕ) (b : List ℕ) → answered number rows input max b .cursor .cycles ≡ answered number rows input max b .live-count
-unfolding answered startOf
-answered-cycles zero rows input max b = executed-cycles rows (startOf input) max b ∙ zero-add _
-answered-cycles (suc number) rows input max b = refl
+execution-for-cycles : (number : ℕ) (rows input : List ℕ) (max : ℕ) (b : List ℕ) → executionFor number rows input max b .cursor .cycles ≡ executionFor number rows input max b .live-count
+unfolding executionFor startOf
+execution-for-cycles zero rows input max b = executed-cycles rows (startOf input) max b ∙ zero-add _
+execution-for-cycles (suc number) rows input max b = refl
 
 execute-accepted : (rows input : List ℕ) (max : ℕ) (b : List ℕ) → executeOf rows input max b .number ≡ 0
     → (executeOf rows input max b ≡ executed rows (startOf input) max b) × (max ≤ 2 ^ 32)
 unfolding executeOf
 execute-accepted rows input max b e =
-    let none = sym (answered-number (lowest (executeRefusals rows max (length b))) rows input max b) ∙ e in
+    let none = sym (execution-for-number (lowest (executeRefusals rows max (length b))) rows input max b) ∙ e in
     (accepted-is rows input max b (sym none), accepted-execution rows input max (length b) none .1 .0)
 
 counts : (rows input : List ℕ) (max : ℕ) (b : List ℕ) → executeOf rows input max b .number ≡ 0 → Counts rows input max (executeOf rows input max b)
@@ -227,12 +227,12 @@ executed-joined rows input max b e =
 joined : (rows input : List ℕ) (max : ℕ) (b : List ℕ) → executeOf rows input max b .number ≡ 0 → Joined rows input (executeOf rows input max b)
 unfolding executeOf
 joined rows input max b e =
-    let none = sym (answered-number (lowest (executeRefusals rows max (length b))) rows input max b) ∙ e in
+    let none = sym (execution-for-number (lowest (executeRefusals rows max (length b))) rows input max b) ∙ e in
     rw (accepted-is rows input max b (sym none)) (executed-joined rows input max b none)
 
 execute-cycles : (rows input : List ℕ) (max : ℕ) (b : List ℕ) → executeOf rows input max b .cursor .cycles ≡ executeOf rows input max b .live-count
 unfolding executeOf
-execute-cycles rows input max b = answered-cycles (lowest (executeRefusals rows max (length b))) rows input max b
+execute-cycles rows input max b = execution-for-cycles (lowest (executeRefusals rows max (length b))) rows input max b
 
 pub execute-laws : ExecuteLaws
 execute-laws =

@@ -15,7 +15,7 @@ use Rattle.interp.specs.declared.run.Due.the-variants.{Exactly, PowerOfT
 use Rattle.interp.specs.Machine.{startOf, flat}
 use Rattle.interp.specs.Code.{coreOf, Ready, Room, stepOf, callOf, firstOf}
 use Rattle.interp.specs.Calls.{recorded, end, Call, isSegment, amount, lent, turn, rowLines, callLines, refusals, refusalOf, settled, answerOf, refusalNumber}
-use Rattle.interp.specs.Execute.{nextPowerOfTwo, lengthLines, executeRefusals, executed, answered, executeOf}
+use Rattle.interp.specs.Execute.{nextPowerOfTwo, lengthLines, executeRefusals, executed, executionFor, executeOf}
 use Rattle.interp.proofs.run.Powers.{smallest, power-mono}
 
 -- tests that hold together are equal
@@ -200,8 +200,8 @@ accepted-answer seg rows c n buffer e = rw (sym (e ∙ judged seg rows c n buffe
 -- ---- execute
 
 refused-execution-leaves : (why : Refusal) (rows input : List ℕ) (max : ℕ) (buffer : List ℕ)
-    → answered (refusalNumber why) rows input max buffer ≡ record { number = refusalNumber why; live-count = 0; record-count = 0; cursor = startOf []; buffer = buffer }
-unfolding answered
+    → executionFor (refusalNumber why) rows input max buffer ≡ record { number = refusalNumber why; live-count = 0; record-count = 0; cursor = startOf []; buffer = buffer }
+unfolding executionFor
 refused-execution-leaves NoRows rows input max buffer = refl
 refused-execution-leaves TooManyRows rows input max buffer = refl
 refused-execution-leaves NoExpansion rows input max buffer = refl
@@ -217,5 +217,5 @@ refused-execution why rows input max buffer e = rw (sym e) (refused-execution-le
 
 pub accepted-is : (rows input : List ℕ) (max : ℕ) (buffer : List ℕ) → 0 ≡ lowest (executeRefusals rows max (length buffer))
     → executeOf rows input max buffer ≡ executed rows (startOf input) max buffer
-unfolding executeOf answered
+unfolding executeOf executionFor
 accepted-is rows input max buffer e = rw (sym e) refl
