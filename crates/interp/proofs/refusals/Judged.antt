@@ -2,11 +2,11 @@
 use mathlib.Core.Path.{_≡_, refl, ap, sym, _∙_}
 use mathlib.Core.Bool.{Bool, true, false, not, cond, _&&_, false≢true}
 use mathlib.Core.List.{List, [], _++_}
-use Prim.Native.Nat.{ℕ, _+_, _-_, _*_, _/_, _^_, _≤_, _<_}
+use Prim.Native.Nat.{ℕ, zero, suc, _+_, _-_, _*_, _/_, _^_, _≤_, _<_}
 use native.Mathlib.Omega.{arith}
 use lib.Dec.{eqb, ltb}
 use lib.ListN.{length, drop}
-use borrow.Author.Tests.{eqb-false, ltb-true, ltb-false, lt-ltb, le-ltb}
+use borrow.Author.Tests.{ne-eqb, eqb-false, ltb-true, ltb-false, lt-ltb, le-ltb}
 use Rattle.expand.specs.Expand.{Line, lowest, isExpansion}
 use Rattle.interp.specs.declared.Cursor.{Cursor}
 use Rattle.interp.specs.declared.Refusal.{Refusal}
@@ -53,13 +53,17 @@ first-three false false false rest = refl
 rows-first : (rows : List ℕ) (rest : List Line) → lowest (rowLines rows ++ rest) ≡ firstOf (lowest (rowLines rows)) (lowest rest)
 rows-first rows rest = first-three (eqb (length rows) 0) (ltb 6291456 (length rows)) (not (isExpansion rows)) (lowest rest)
 
+-- no refusal has the number of an accepted call
+refused-pos : (why : Refusal) → 0 < refusalNumber why
+refused-pos NoRows = omega arith
+refused-pos TooManyRows = omega arith
+refused-pos NoExpansion = omega arith
+refused-pos OutsideRows = omega arith
+refused-pos TooManyCycles = omega arith
+refused-pos Short = omega arith
+
 pub refused-not-0 : (why : Refusal) → eqb (refusalNumber why) 0 ≡ false
-refused-not-0 NoRows = refl
-refused-not-0 TooManyRows = refl
-refused-not-0 NoExpansion = refl
-refused-not-0 OutsideRows = refl
-refused-not-0 TooManyCycles = refl
-refused-not-0 Short = refl
+refused-not-0 why = ne-eqb (refusalNumber why) 0 (omega (arith, refused-pos why))
 
 -- of two parts of a table the first decides if it refuses, else the other does
 pub first-refused : (why : Refusal) (first rest : ℕ) → refusalNumber why ≡ first → refusalNumber why ≡ firstOf first rest
@@ -160,16 +164,12 @@ unfolding refusalOf isSegment amount lent
 judged true rows c n buffer = refl
 judged false rows c n buffer = refl
 
--- a refusal has a number that is not 0, and the call leaves all as it was
-refused-leaves : (why : Refusal) (rows : List ℕ) (c : Cursor) (k : Call)
-    → settled (refusalNumber why) rows c k ≡ record { number = refusalNumber why; cursor = c; buffer = lent k }
+-- with a number that is not 0 a call leaves all as it was
+refused-leaves : (number : ℕ) (rows : List ℕ) (c : Cursor) (k : Call) → 0 < number
+    → settled number rows c k ≡ record { number = number; cursor = c; buffer = lent k }
 unfolding settled
-refused-leaves NoRows rows c k = refl
-refused-leaves TooManyRows rows c k = refl
-refused-leaves NoExpansion rows c k = refl
-refused-leaves OutsideRows rows c k = refl
-refused-leaves TooManyCycles rows c k = refl
-refused-leaves Short rows c k = refl
+refused-leaves zero rows c k p = absurd (omega arith)
+refused-leaves (suc number) rows c k p = refl
 
 lent-is : (seg : Bool) (n : ℕ) (buffer : List ℕ) → lent (callOf seg n buffer) ≡ buffer
 unfolding lent
@@ -181,7 +181,7 @@ pub refused-answer : (why : Refusal) (seg : Bool) (rows : List ℕ) (c : Cursor)
     → answerOf rows c (callOf seg n buffer) ≡ record { number = refusalNumber why; cursor = c; buffer = buffer }
 unfolding answerOf
 refused-answer why seg rows c n buffer e =
-    rw (sym (e ∙ judged seg rows c n buffer)) (refused-leaves why rows c (callOf seg n buffer) ∙ rw (lent-is seg n buffer) refl)
+    rw (sym (e ∙ judged seg rows c n buffer)) (refused-leaves _ rows c (callOf seg n buffer) (refused-pos why) ∙ rw (lent-is seg n buffer) refl)
 
 -- an accepted call runs its cycles
 ran : (seg : Bool) (rows : List ℕ) (c : Cursor) (n : ℕ) (buffer : List ℕ)
@@ -199,21 +199,17 @@ accepted-answer seg rows c n buffer e = rw (sym (e ∙ judged seg rows c n buffe
 
 -- ---- execute
 
-refused-execution-leaves : (why : Refusal) (rows input : List ℕ) (max : ℕ) (buffer : List ℕ)
-    → executionFor (refusalNumber why) rows input max buffer ≡ record { number = refusalNumber why; live-count = 0; record-count = 0; cursor = startOf []; buffer = buffer }
+refused-execution-leaves : (number : ℕ) (rows input : List ℕ) (max : ℕ) (buffer : List ℕ) → 0 < number
+    → executionFor number rows input max buffer ≡ record { number = number; live-count = 0; record-count = 0; cursor = startOf []; buffer = buffer }
 unfolding executionFor
-refused-execution-leaves NoRows rows input max buffer = refl
-refused-execution-leaves TooManyRows rows input max buffer = refl
-refused-execution-leaves NoExpansion rows input max buffer = refl
-refused-execution-leaves OutsideRows rows input max buffer = refl
-refused-execution-leaves TooManyCycles rows input max buffer = refl
-refused-execution-leaves Short rows input max buffer = refl
+refused-execution-leaves zero rows input max buffer p = absurd (omega arith)
+refused-execution-leaves (suc number) rows input max buffer p = refl
 
 pub refused-execution : (why : Refusal) (rows input : List ℕ) (max : ℕ) (buffer : List ℕ)
     → refusalNumber why ≡ lowest (executeRefusals rows max (length buffer))
     → executeOf rows input max buffer ≡ record { number = refusalNumber why; live-count = 0; record-count = 0; cursor = startOf []; buffer = buffer }
 unfolding executeOf
-refused-execution why rows input max buffer e = rw (sym e) (refused-execution-leaves why rows input max buffer)
+refused-execution why rows input max buffer e = rw (sym e) (refused-execution-leaves _ rows input max buffer (refused-pos why))
 
 pub accepted-is : (rows input : List ℕ) (max : ℕ) (buffer : List ℕ) → 0 ≡ lowest (executeRefusals rows max (length buffer))
     → executeOf rows input max buffer ≡ executed rows (startOf input) max buffer
