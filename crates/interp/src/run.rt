@@ -43,7 +43,7 @@ fn is_over(halted: bool, taken: usize, limit: usize) -> bool
     if halted { true } else { taken == limit }
 }
 
-// The row of a turn: the next live one, or where padding stays.
+// The row of the first turn: the next live one, or where padding stays.
 fn fetch_row(over: bool, fetch: MicroPc, pc: MicroPc) -> MicroPc
     ensures { λ r. ⌜ r ≡ cond over fetch pc ⌝ }
 {
@@ -64,7 +64,8 @@ fn afresh(k: Core) -> Core
 }
 
 // Live cycles until the machine halts, at most `limit`; they are counted. A row is taken apart in one place, so that the
-// compiler builds the decoder into the loop: where the live cycles end, that is the row at which padding stays.
+// compiler builds the decoder into the loop: where the live cycles end, that is the row at which padding stays. After a cycle
+// both positions are one, so that a row is fetched without waiting for the test whether it is live.
 fn run_live(
     rows: &[u64],
     start: Core,
@@ -81,11 +82,12 @@ fn run_live(
 {
     let mut core = afresh(start);
     let mut i: usize = 0;
+    let over = is_over(core.halted, i, limit);
+    let mut at = fetch_row(over, core.next_fetch, core.micro_pc);
     loop {
-        let over = is_over(core.halted, i, limit);
-        let at = fetch_row(over, core.next_fetch, core.micro_pc).0;
-        let row = expand::rom_row(rows[at]);
-        if over {
+        let place = at.0;
+        let row = expand::rom_row(rows[place]);
+        if is_over(core.halted, i, limit) {
             return Stopped {
                 core: core,
                 count: i,
@@ -102,6 +104,7 @@ fn run_live(
             &mut records[base..base + RECORD_WORDS],
         );
         core = afresh(next);
+        at = MicroPc(core.next_fetch.0);
         i += 1;
     }
 }

@@ -202,3 +202,13 @@ live-on rows n c₀ c i l e lt =
       few = λ h. omega (arith, kept .1 .1, l .few lt, h);
       counted = l .counted ∙ omega (arith, more);
     }
+
+-- after a live cycle both positions are one, so that the row of the next turn is known before it is known whether it is live
+pub turn-kept : (rows : List ℕ) (c c′ : Cursor) (i n : ℕ) → c′ ≡ live rows c .after
+    → c′ .«next_fetch» ≡ cond (cond (c′ .halted) true (eqb i n)) (c′ .«next_fetch») (c′ .«micro_pc»)
+unfolding live stepAt commit
+turn-kept rows c c′ i n e = go (cond (c′ .halted) true (eqb i n))
+  where
+    go : (over : Bool) → c′ .«next_fetch» ≡ cond over (c′ .«next_fetch») (c′ .«micro_pc»)
+    go true = refl
+    go false = ap (λ (d : Cursor). d .«next_fetch») e ∙ sym (ap (λ (d : Cursor). d .«micro_pc») e)
