@@ -95,14 +95,8 @@ fn run_live(
             };
         }
         let base = RECORD_WORDS * i;
-        let next = live_cycle(
-            row,
-            rows.len(),
-            core,
-            regs,
-            ram,
-            &mut records[base..base + RECORD_WORDS],
-        );
+        let record = &mut records[base..base + RECORD_WORDS];
+        let next = live_cycle(row, rows.len(), core, regs, ram, record);
         core = afresh(next);
         at = MicroPc(core.next_fetch.0);
         i += 1;

@@ -10,6 +10,7 @@ use lib.Dec.{eqb}
 use lib.ListN.{length, take, drop}
 use lib.Seq.{take-at, drop-at, drop-drop}
 use borrow.Author.Tests.{eqb-true, eqb-false}
+use Rattle.expand.specs.declared.MicroPc.{MicroPc}
 use Rattle.expand.specs.declared.RomRow.{RomRow}
 use Rattle.expand.proofs.Laws.{laws}
 use Rattle.interp.specs.declared.Cursor.{Cursor}
@@ -203,9 +204,12 @@ live-on rows n c₀ c i l e lt =
       counted = l .counted ∙ omega (arith, more);
     }
 
+-- the row of a turn, after i of n cycles: where padding stays if the live ones are over, else the next live one
+abbrev pub turn-row : Cursor → ℕ → ℕ → MicroPc
+turn-row c i n = cond (cond (c .halted) true (eqb i n)) (c .«next_fetch») (c .«micro_pc»)
+
 -- after a live cycle both positions are one, so that the row of the next turn is known before it is known whether it is live
-pub turn-kept : (rows : List ℕ) (c c′ : Cursor) (i n : ℕ) → c′ ≡ live rows c .after
-    → c′ .«next_fetch» ≡ cond (cond (c′ .halted) true (eqb i n)) (c′ .«next_fetch») (c′ .«micro_pc»)
+pub turn-kept : (rows : List ℕ) (c c′ : Cursor) (i n : ℕ) → c′ ≡ live rows c .after → c′ .«next_fetch» ≡ turn-row c′ i n
 unfolding live stepAt commit
 turn-kept rows c c′ i n e = go (cond (c′ .halted) true (eqb i n))
   where

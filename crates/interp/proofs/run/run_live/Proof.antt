@@ -18,20 +18,16 @@ use Rattle.interp.specs.Execute.{liveCount}
 use Rattle.interp.specs.Code.{whole}
 use Rattle.interp.proofs.arms.Lawful.{next-of, row-in}
 use Rattle.interp.proofs.run.Loops.{Going, going-on}
-use Rattle.interp.proofs.run.Halting.{Live, live-on, turn-kept, not-over, count-over}
+use Rattle.interp.proofs.run.Halting.{Live, live-on, turn-row, turn-kept, not-over, count-over}
 use borrow.Author.Needs.{needs}
 use Rattle.interp.proofs.run.run_live.Statement.{statement}
 use Rattle.interp.proofs.run.run_live.Tie as tie
-
--- the row of a turn: the next live one, or where padding stays
-abbrev turn-row : Core → ℕ → ℕ → MicroPc
-turn-row k i limit = cond (cond (k .halted) true (eqb i limit)) (k .«next_fetch») (k .«micro_pc»)
 
 abbrev Inv-loop : tie.InvT-loop
 Inv-loop rows limit regs₀ ram₀ records₀ core₀ i₀ over at₀ regs ram records core i at =
     Live rows limit (whole core₀ regs₀ ram₀) (whole core regs ram) i
     × Going (live rows) limit records₀ (whole core₀ regs₀ ram₀) records (whole core regs ram) i
-    × (at ≡ turn-row core i limit)
+    × (at ≡ turn-row (whole core regs ram) i limit)
 
 abbrev μ-loop : tie.MeasureT-loop
 μ-loop rows limit regs₀ ram₀ records₀ core₀ i₀ over at₀ regs ram records core i at = limit - i
@@ -95,20 +91,20 @@ returns c =
 mul-base : tie.Need-mul-base Inv-loop μ-loop
 mul-base c = omega (arith, in-room c)
 
-add-live-cycle : tie.Need-add-live-cycle Inv-loop μ-loop
-add-live-cycle c = omega (arith, in-room (c .before .before))
+add-record : tie.Need-add-record Inv-loop μ-loop
+add-record c = omega (arith, in-room c)
 
-mul-live-cycle : tie.Need-mul-live-cycle Inv-loop μ-loop
-mul-live-cycle c = omega (arith, in-room (c .before .before))
+mul-record : tie.Need-mul-record Inv-loop μ-loop
+mul-record c = omega (arith, in-room c)
 
-sub-live-cycle : tie.Need-sub-live-cycle Inv-loop μ-loop
-sub-live-cycle c = omega (arith, in-room (c .before .before))
+sub-record : tie.Need-sub-record Inv-loop μ-loop
+sub-record c = omega (arith, in-room c)
 
-part-live-cycle-start : tie.Need-part-live-cycle-start Inv-loop μ-loop
-part-live-cycle-start c = omega (arith, in-room (c .before .before))
+part-record-start : tie.Need-part-record-start Inv-loop μ-loop
+part-record-start c = omega (arith, in-room c)
 
-part-live-cycle-end : tie.Need-part-live-cycle-end Inv-loop μ-loop
-part-live-cycle-end c = omega (arith, in-room (c .before .before))
+part-record-end : tie.Need-part-record-end Inv-loop μ-loop
+part-record-end c = omega (arith, in-room c)
 
 live-cycle-requires : tie.Need-live-cycle-requires Inv-loop μ-loop
 live-cycle-requires c κs =
@@ -159,11 +155,11 @@ run-live-spec =
     same-length
     returns
     mul-base
-    add-live-cycle
-    mul-live-cycle
-    sub-live-cycle
-    part-live-cycle-start
-    part-live-cycle-end
+    add-record
+    mul-record
+    sub-record
+    part-record-start
+    part-record-end
     live-cycle-requires
     (λ c κs. search needs)
     add-i
