@@ -4,8 +4,8 @@ use super::{shown, Difference, Halted, Qemu, Ram, Register, Says, CONTENT, SHIFT
 use crate::asm::{addi, auipc, ld, load, lui, op, op32, op_imm, op_imm32, store};
 use crate::words::{EBREAK, ECALL};
 
-/// `fence iorw,iorw`
-const FENCE: u32 = 0x0ff0_000f;
+/// `fence iorw,iorw`, `fence.tso` and `pause`.
+const FENCES: [u32; 3] = [0x0ff0_000f, 0x8330_000f, 0x0100_000f];
 /// The bit that tells srai from srli.
 const ARITHMETIC: i64 = 0x400;
 
@@ -138,11 +138,9 @@ fn x0() -> Vec<Difference> {
     ]
 }
 
-/// The manual has no halt: fence goes on, ecall and ebreak go to the environment.
+/// The manual has no halt: fences go on, ecall and ebreak go to the environment.
 fn halts() -> Vec<Difference> {
-    vec![
-        shown(Halted, Qemu, &[FENCE], &[], &[]),
-        shown(Halted, Says(0), &[ECALL], &[], &[]),
-        shown(Halted, Says(0), &[EBREAK], &[], &[]),
-    ]
+    let fences = FENCES.map(|word| shown(Halted, Qemu, &[word], &[], &[]));
+    let calls = [ECALL, EBREAK].map(|word| shown(Halted, Says(0), &[word], &[], &[]));
+    fences.into_iter().chain(calls).collect()
 }
