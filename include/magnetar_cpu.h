@@ -10,7 +10,9 @@
  * - A slice is a pointer and a length, counted in elements. All the elements
  *   counted must be there.
  * - No pointer is null, and each is aligned for its type, also where the length
- *   is 0; nothing is read or written through it then. malloc(0) may give null.
+ *   is 0; nothing is read or written through it then. malloc(0) may give null,
+ *   and so may data() of an empty std::vector, also after reserve(): where there
+ *   is nothing to lend, give the address of a variable of that type.
  * - Behind every cursor pointer are MAGNETAR_CURSOR_WORDS words; behind count,
  *   live and record_count is one.
  * - What one call is lent does not overlap.
@@ -32,6 +34,16 @@
 
 #include <stddef.h>
 #include <stdint.h>
+
+/* Makes compilers warn of an answer that is not used: it may be a refusal. */
+#if (defined(__cplusplus) && __cplusplus >= 201703L) || \
+    (defined(__STDC_VERSION__) && __STDC_VERSION__ >= 202311L)
+#define MAGNETAR_MUST_USE [[nodiscard]]
+#elif defined(__GNUC__)
+#define MAGNETAR_MUST_USE __attribute__((warn_unused_result))
+#else
+#define MAGNETAR_MUST_USE
+#endif
 
 #ifdef __cplusplus
 extern "C" {
@@ -155,6 +167,7 @@ extern "C" {
  * first row, starts[0] to starts[program_len - 1]; the count of rows, *count.
  * MAGNETAR_ROWS_PER_WORD * program_len rows always suffice.
  */
+MAGNETAR_MUST_USE
 uint64_t magnetar_expand(const uint32_t *program, size_t program_len,
                          uint64_t *rows, size_t rows_len,
                          uint64_t *starts, size_t starts_len,
@@ -164,6 +177,7 @@ uint64_t magnetar_expand(const uint32_t *program, size_t program_len,
  * 1 if the rows are the expansion of a program of any length, else 0. No rows
  * are that of no words: 1. Nothing is refused, nothing is written.
  */
+MAGNETAR_MUST_USE
 uint64_t magnetar_is_expansion(const uint64_t *rows, size_t rows_len);
 
 /*
@@ -189,6 +203,7 @@ void magnetar_start(const uint64_t *input, size_t input_len,
  * An accepted call of m + n cycles gives the records and the cursor of a call of
  * m cycles followed by one of n.
  */
+MAGNETAR_MUST_USE
 uint64_t magnetar_segment(const uint64_t *rows, size_t rows_len,
                           uint64_t cursor[MAGNETAR_CURSOR_WORDS],
                           uint64_t length,
@@ -205,6 +220,7 @@ uint64_t magnetar_segment(const uint64_t *rows, size_t rows_len,
  * Written: the records, 17 * length words from records[0] on; the cursor after
  * the cycles.
  */
+MAGNETAR_MUST_USE
 uint64_t magnetar_padding(const uint64_t *rows, size_t rows_len,
                           uint64_t cursor[MAGNETAR_CURSOR_WORDS],
                           uint64_t length,
@@ -228,6 +244,7 @@ uint64_t magnetar_padding(const uint64_t *rows, size_t rows_len,
  * padding, all its words. It can be lent to further calls; what it held before
  * does not matter.
  */
+MAGNETAR_MUST_USE
 uint64_t magnetar_execute(const uint64_t *rows, size_t rows_len,
                           const uint64_t *input, size_t input_len,
                           uint64_t max_cycles,
@@ -241,10 +258,12 @@ uint64_t magnetar_execute(const uint64_t *rows, size_t rows_len,
  * Register 0, cycles and next_fetch do not count. Nothing is refused, nothing
  * is written.
  */
+MAGNETAR_MUST_USE
 uint64_t magnetar_same(const uint64_t a[MAGNETAR_CURSOR_WORDS],
                        const uint64_t b[MAGNETAR_CURSOR_WORDS]);
 
 /* The library's own MAGNETAR_CURSOR_WORDS, so that a caller can compare. */
+MAGNETAR_MUST_USE
 uint64_t magnetar_cursor_words(void);
 
 #ifdef __cplusplus
