@@ -101,7 +101,7 @@ extern "C" {
 /* The row of the next padding cycle: next_pc of the last record. */
 #define MAGNETAR_CURSOR_NEXT_FETCH 324
 
-/* ---- a record: what stands at which word */
+/* ---- a record: what stands at which word; docs/LIBRARY.md has it in full */
 
 #define MAGNETAR_RECORD_WORDS 17
 
