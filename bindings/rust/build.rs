@@ -1,36 +1,34 @@
 //! Finds the static library of the port and links it.
 
 use std::env;
-use std::path::Path;
-use std::process;
+use std::path::{Path, PathBuf};
 
 const VARIABLE: &str = "MAGNETAR_LIB";
 const DEFAULT: &str = "../../target/staticlib";
 const FILE: &str = "libmagnetar_cpu.a";
 const MAKER: &str = "rt staticlib magnetar_cpu";
 
+/// A missing library is no error here: `cargo doc` and `cargo check` do without
+/// it, and of a build that needs it rustc says that it is not there.
 fn main() {
     println!("cargo:rerun-if-changed=build.rs");
     println!("cargo:rerun-if-env-changed={VARIABLE}");
-    if let Err(message) = run() {
-        eprintln!("{message}");
-        process::exit(1);
-    }
-}
-
-fn run() -> Result<(), String> {
-    let package = env::var("CARGO_MANIFEST_DIR").map_err(|error| error.to_string())?;
-    let named = env::var_os(VARIABLE).unwrap_or_else(|| DEFAULT.into());
-    let directory = Path::new(&package).join(named);
-    let directory = directory.canonicalize().map_err(|_| missing(&directory))?;
+    let directory = directory();
     let file = directory.join(FILE);
     if !file.is_file() {
-        return Err(missing(&directory));
+        println!("cargo:warning={}", missing(&directory));
     }
+    // Of a missing file too: cargo then runs this until it is there.
     println!("cargo:rerun-if-changed={}", file.display());
     println!("cargo:rustc-link-search=native={}", directory.display());
     println!("cargo:rustc-link-lib=static=magnetar_cpu");
-    Ok(())
+}
+
+/// The directory that must hold the library, without `..` if it is there.
+fn directory() -> PathBuf {
+    let named = env::var_os(VARIABLE).unwrap_or_else(|| DEFAULT.into());
+    let directory = Path::new(env!("CARGO_MANIFEST_DIR")).join(named);
+    directory.canonicalize().unwrap_or(directory)
 }
 
 fn missing(directory: &Path) -> String {

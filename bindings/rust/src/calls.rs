@@ -3,13 +3,15 @@
 #![forbid(unsafe_code)]
 
 use crate::refusal::result;
-use crate::{words, Cursor, Refusal};
+use crate::{records, words, Cursor, Records, Refusal, Stop, RECORD_WORDS};
 
+/// The most rows that one program word gives.
+pub const ROWS_PER_WORD: usize = 6;
 /// The longest program that is accepted.
 pub const MAX_PROGRAM_WORDS: usize = 1 << 20;
 /// The most rows that are accepted: those of the longest program, all register
 /// shifts.
-pub const MAX_ROWS: usize = 6 * MAX_PROGRAM_WORDS;
+pub const MAX_ROWS: usize = ROWS_PER_WORD * MAX_PROGRAM_WORDS;
 /// The most that a cursor's cycles and the length of a segment may be together.
 pub const MAX_TOTAL_CYCLES: u64 = 1 << 62;
 /// The most cycles that [`execute`] can be given.
@@ -17,10 +19,11 @@ pub const MAX_EXECUTE_CYCLES: u64 = 1 << 32;
 
 /// Expands `program` into row words, raw + 2^32 × stage, and gives their count.
 ///
-/// A register shift becomes six rows, every other word one; so `6 *
+/// A register shift becomes six rows, every other word one; so `ROWS_PER_WORD *
 /// program.len()` places are always enough. The row words go to the first places
 /// of `rows`, and the row position where each instruction begins to the first
-/// places of `starts`; the places after them are left alone.
+/// places of `starts`; the places after them are left alone. `Expansion::new` of
+/// the feature `alloc` does the same in memory of its own.
 ///
 /// # Errors
 ///
@@ -52,6 +55,10 @@ pub fn is_expansion(rows: &[u64]) -> bool {
 
 /// A fresh cursor: all zero, with the input in RAM from its first word on. Input
 /// past the 256 words of RAM is ignored. Nothing is refused.
+///
+/// # Panics
+///
+/// If the library is of another version: [`cursor_words`].
 pub fn start(input: &[u64]) -> Cursor {
     let mut image = [0; Cursor::WORDS];
     words::start(input, &mut image);
@@ -78,7 +85,8 @@ pub fn start(input: &[u64]) -> Cursor {
 ///
 /// # Panics
 ///
-/// If the library's answer is none of its numbers.
+/// If the library's answer is none of its numbers, or if the library is of another
+/// version: [`cursor_words`].
 pub fn segment(
     rows: &[u64],
     cursor: &mut Cursor,
@@ -99,7 +107,8 @@ pub fn segment(
 ///
 /// # Panics
 ///
-/// If the library's answer is none of its numbers.
+/// If the library's answer is none of its numbers, or if the library is of another
+/// version: [`cursor_words`].
 pub fn padding(
     rows: &[u64],
     cursor: &mut Cursor,
@@ -111,17 +120,30 @@ pub fn padding(
 }
 
 /// What [`execute`] has done.
-#[derive(Clone, Debug)]
+#[derive(Clone, Debug, PartialEq, Eq)]
+#[non_exhaustive]
 pub struct Execution {
     /// How many cycles were live, the halting one included: at most
-    /// `max_cycles`. If it is `max_cycles`, the machine may not have halted:
-    /// the cursor tells.
+    /// `max_cycles`.
     pub live_count: u64,
     /// How many records were written: the smallest power of two that is at least
     /// 1 and at least the live count. Those past the live ones are padding.
     pub record_count: usize,
     /// The cursor after padding.
     pub cursor: Cursor,
+    /// Why the machine stopped: at a halt, or because `max_cycles` were run.
+    pub stop: Stop,
+}
+
+impl Execution {
+    /// The records that the execution wrote into `buffer`.
+    ///
+    /// # Panics
+    ///
+    /// If the buffer has not that many records: it is not the one that was lent.
+    pub fn records<'a>(&self, buffer: &'a [u64]) -> Records<'a> {
+        records(&buffer[..RECORD_WORDS * self.record_count])
+    }
 }
 
 /// Runs a machine from a fresh cursor with `input` until it halts, at most
@@ -143,7 +165,8 @@ pub struct Execution {
 ///
 /// # Panics
 ///
-/// If the library's answer is none of its numbers.
+/// If the library's answer is none of its numbers, or if the library is of another
+/// version: [`cursor_words`].
 pub fn execute(
     rows: &[u64],
     input: &[u64],
@@ -162,10 +185,13 @@ pub fn execute(
         &mut record_count,
     );
     result("magnetar_execute", answer, &Refusal::EXECUTE)?;
+    let cursor = Cursor::new(image);
+    let stop = cursor.stop(rows);
     Ok(Execution {
         live_count,
         record_count: usize::try_from(record_count).expect("a count of records in memory"),
-        cursor: Cursor::new(image),
+        cursor,
+        stop: stop.expect("a machine from the start halts at a row that halts"),
     })
 }
 
@@ -175,14 +201,16 @@ pub fn execute(
 ///
 /// # Panics
 ///
-/// If the library's answer is neither 0 nor 1.
+/// If the library's answer is neither 0 nor 1, or if the library is of another
+/// version: [`cursor_words`].
 pub fn same_checkpoint(a: &Cursor, b: &Cursor) -> bool {
     yes_or_no("magnetar_same", words::same(a.image(), b.image()))
 }
 
-/// How many words the library takes an image to have. It must be
-/// [`Cursor::WORDS`]: if not, the library linked is not the one that this crate
-/// was written for, and no other function may be called.
+/// How many words the library takes an image to have. If that is not
+/// [`Cursor::WORDS`], the library linked is not of this crate's version. This can be
+/// called with any library; all functions that take or give a cursor compare the
+/// two first and panic if they differ, before the library is lent anything.
 pub fn cursor_words() -> usize {
     usize::try_from(words::cursor_words()).expect("a count of words in memory")
 }

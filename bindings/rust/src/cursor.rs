@@ -2,7 +2,9 @@
 
 #![forbid(unsafe_code)]
 
-use std::ops::Range;
+use crate::Stop;
+use core::fmt;
+use core::ops::Range;
 
 /// The words of a cursor, in the order of the library's interface. The
 /// constants of [`Cursor`] are the places in it.
@@ -10,7 +12,12 @@ pub type Image = [u64; Cursor::WORDS];
 
 /// What a segment or padding call goes on from, and what it leaves. A clone of
 /// it is a checkpoint: calls from the clone give the same records.
-#[derive(Clone, Debug)]
+///
+/// Cursors are equal if all their words are;
+/// [`same_checkpoint`](crate::same_checkpoint) is coarser. `{}` says in one line
+/// where the machine is, `{:?}` has all words but registers and RAM words that
+/// are 0.
+#[derive(Clone, PartialEq, Eq)]
 pub struct Cursor {
     image: Image,
 }
@@ -82,5 +89,103 @@ impl Cursor {
     /// The row that the next padding cycle shows.
     pub fn next_fetch(&self) -> u64 {
         self.image[Self::NEXT_FETCH]
+    }
+
+    /// Why the machine stopped, on the rows that it ran. A halted machine stays at
+    /// the row at which it halted, so that row tells.
+    ///
+    /// `None` if the machine is halted and no row that halts stands at micro_pc:
+    /// the rows are others, or the image was filled by hand. From a fresh cursor
+    /// no call leaves that.
+    pub fn stop(&self, rows: &[u64]) -> Option<Stop> {
+        if !self.is_halted() {
+            return Some(Stop::Limit);
+        }
+        let row = rows.get(usize::try_from(self.micro_pc()).ok()?)?;
+        Stop::of_word(*row as u32)
+    }
+}
+
+impl From<Image> for Cursor {
+    fn from(image: Image) -> Self {
+        Cursor::new(image)
+    }
+}
+
+impl From<Cursor> for Image {
+    fn from(cursor: Cursor) -> Self {
+        cursor.image
+    }
+}
+
+impl fmt::Display for Cursor {
+    fn fmt(&self, f: &mut fmt::Formatter) -> fmt::Result {
+        write!(f, "row {}, cycles {}, ", self.micro_pc(), self.cycles())?;
+        if self.is_halted() {
+            write!(f, "halted with output {}", self.output())
+        } else {
+            f.write_str("running")
+        }
+    }
+}
+
+impl fmt::Debug for Cursor {
+    fn fmt(&self, f: &mut fmt::Formatter) -> fmt::Result {
+        f.debug_struct("Cursor")
+            .field("micro_pc", &self.micro_pc())
+            .field("cycles", &self.cycles())
+            .field("halted", &self.image[Self::HALTED])
+            .field("output", &self.output())
+            .field("next_fetch", &self.next_fetch())
+            .field("regs", &NotZero(self.regs()))
+            .field("ram", &NotZero(self.ram()))
+            .finish()
+    }
+}
+
+/// The words that are not 0, each with its number.
+struct NotZero<'a>(&'a [u64]);
+
+impl fmt::Debug for NotZero<'_> {
+    fn fmt(&self, f: &mut fmt::Formatter) -> fmt::Result {
+        let words = self.0.iter().enumerate();
+        f.debug_map()
+            .entries(words.filter(|(_, &word)| word != 0))
+            .finish()
+    }
+}
+
+#[cfg(test)]
+mod tests {
+    use super::*;
+    use std::format;
+
+    fn with(words: &[(usize, u64)]) -> Cursor {
+        let mut image = [0; Cursor::WORDS];
+        words.iter().for_each(|&(place, word)| image[place] = word);
+        Cursor::from(image)
+    }
+
+    #[test]
+    fn cursors_as_text() {
+        let running = with(&[(Cursor::MICRO_PC, 3), (Cursor::CYCLES, 5)]);
+        assert_eq!(format!("{running}"), "row 3, cycles 5, running");
+        let halted = with(&[(5, 1200), (64 + 255, 9), (322, 2), (323, 7), (324, 1)]);
+        assert_eq!(format!("{halted}"), "row 0, cycles 0, halted with output 7");
+        assert_eq!(
+            format!("{halted:?}"),
+            "Cursor { micro_pc: 0, cycles: 0, halted: 2, output: 7, next_fetch: 1, \
+             regs: {5: 1200}, ram: {255: 9} }"
+        );
+    }
+
+    #[test]
+    fn every_word_counts_for_equality() {
+        for place in 0..Cursor::WORDS {
+            let cursor = with(&[(place, 1)]);
+            assert_ne!(cursor, with(&[]));
+            assert_eq!(cursor, cursor.clone());
+            assert_eq!(Image::from(cursor)[place], 1);
+        }
     }
 }

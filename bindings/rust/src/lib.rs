@@ -1,30 +1,34 @@
 //! The verified trace recorder for RV64I, called through its static library.
 //!
-//! [`expand`] turns a program into rows; a machine runs on the rows, and each of
-//! its cycles gives a record of [`RECORD_WORDS`] words. The caller lends all
-//! memory. A call that is refused has changed none of it and says why: a
-//! [`Refusal`].
+//! `Expansion::new` turns a program into rows; a machine runs on the rows, and each
+//! of its cycles gives a record of [`RECORD_WORDS`] words. The calls write into
+//! memory that the caller lends. A call that is refused has changed none of it and
+//! says why: a [`Refusal`].
 //!
 //! In one call, from the beginning until the program halts:
 //!
 //! ```
-//! use magnetar_cpu::{execute, expand, records, RECORD_WORDS};
+//! # #[cfg(feature = "alloc")] {
+//! use magnetar_cpu::{execute, Expansion, Stop, RECORD_WORDS};
 //!
 //! let program = [0x0050_0513, 0x0000_0073]; // addi x10, x0, 5; ecall
-//! let mut rows = vec![0; 6 * program.len()];
-//! let mut starts = vec![0; program.len()];
-//! let count = expand(&program, &mut rows, &mut starts)?;
-//! rows.truncate(count);
+//! let expansion = Expansion::new(&program)?;
 //!
 //! let max_cycles: u64 = 8;
 //! let mut buffer = vec![0; RECORD_WORDS * max_cycles.next_power_of_two() as usize];
-//! let execution = execute(&rows, &[], max_cycles, &mut buffer)?;
+//! let execution = execute(&expansion.rows, &[], max_cycles, &mut buffer)?;
 //! assert_eq!((execution.live_count, execution.record_count), (2, 2));
+//! assert_eq!(execution.stop, Stop::Ecall);
 //! assert_eq!(execution.cursor.output(), 5);
 //!
-//! let written = &buffer[..RECORD_WORDS * execution.record_count];
-//! let rows_run: Vec<u64> = records(written).map(|record| record.micro_pc()).collect();
-//! assert_eq!(rows_run, [0, 1]);
+//! let mut records = execution.records(&buffer);
+//! let first = records.next().expect("two records");
+//! assert_eq!((first.rd(), first.rd_val()), (10, 5));
+//! assert_eq!(
+//!     first.to_string(),
+//!     "row 0 -> 1: register 10 = 5 (rd_old 0); flags we is_arith"
+//! );
+//! # }
 //! # Ok::<(), magnetar_cpu::Refusal>(())
 //! ```
 //!
@@ -46,33 +50,55 @@
 //! assert!(!same_checkpoint(&checkpoint, &cursor));
 //!
 //! padding(&rows, &mut cursor, 1, &mut records)?;
-//! assert_eq!(cursor.cycles(), 2);
+//! assert_eq!(cursor.to_string(), "row 1, cycles 2, halted with output 5");
 //! # Ok::<(), magnetar_cpu::Refusal>(())
 //! ```
+//!
+//! Library and crate must be of one version: with a library whose cursor has
+//! another length ([`cursor_words`]) the functions that take or give a cursor
+//! panic.
+//!
+//! The crate needs `core` only. The feature `alloc`, on by default, adds
+//! `Expansion`, which owns its rows; without it, [`expand`] writes into memory that
+//! is lent.
 //!
 //! The contracts that the library is proved to keep are in the repository, in
 //! docs/LIBRARY.md.
 
+#![no_std]
 #![deny(unsafe_code)]
 #![deny(unsafe_op_in_unsafe_fn)]
 #![warn(missing_docs)]
 
+#[cfg(feature = "alloc")]
+extern crate alloc;
+#[cfg(test)]
+extern crate std;
+
 mod calls;
 mod cursor;
+#[cfg(feature = "alloc")]
+mod expansion;
+mod flags;
 mod record;
 mod refusal;
+mod stop;
 #[allow(unsafe_code)]
 pub mod words;
 
 pub use calls::{
     cursor_words, execute, expand, is_expansion, padding, same_checkpoint, segment, start,
-    Execution, MAX_EXECUTE_CYCLES, MAX_PROGRAM_WORDS, MAX_ROWS, MAX_TOTAL_CYCLES,
+    Execution, MAX_EXECUTE_CYCLES, MAX_PROGRAM_WORDS, MAX_ROWS, MAX_TOTAL_CYCLES, ROWS_PER_WORD,
 };
 pub use cursor::{Cursor, Image};
-pub use record::{records, Record, RECORD_WORDS};
-pub use refusal::Refusal;
+#[cfg(feature = "alloc")]
+pub use expansion::Expansion;
+pub use flags::Flags;
+pub use record::{records, Record, Records, RECORD_WORDS};
+pub use refusal::{NotARefusal, Refusal};
+pub use stop::Stop;
 
 /// Runs the example of README.md among the tests.
-#[cfg(doctest)]
+#[cfg(all(doctest, feature = "alloc"))]
 #[doc = include_str!("../README.md")]
 mod readme {}

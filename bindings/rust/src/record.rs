@@ -2,7 +2,10 @@
 
 #![forbid(unsafe_code)]
 
-use std::fmt;
+use crate::Flags;
+use core::fmt;
+use core::iter::FusedIterator;
+use core::slice::ChunksExact;
 
 /// The words of a record.
 pub const RECORD_WORDS: usize = 17;
@@ -11,6 +14,9 @@ pub const RECORD_WORDS: usize = 17;
 ///
 /// The constants of type `usize` are places among the words; those of type `u64`
 /// are the flags' bits in word 16.
+///
+/// As text it is one line: the rows, the register written, the RAM word of a load
+/// or store, and the flags.
 #[derive(Clone, Copy, PartialEq, Eq)]
 pub struct Record<'a> {
     words: &'a [u64; RECORD_WORDS],
@@ -25,21 +31,6 @@ macro_rules! words {
 
             /// The names and words of the fields that are words.
             fn named_words(&self) -> [(&'static str, u64); 16] {
-                [$((stringify!($name), self.$name())),*]
-            }
-        }
-    };
-}
-
-/// Each flag's bit in word 16, and its reader.
-macro_rules! flags {
-    ($($(#[$doc:meta])* $bit:ident $name:ident $at:literal)*) => {
-        impl Record<'_> {
-            $($(#[$doc])* pub const $bit: u64 = 1 << (16 + $at);)*
-            $($(#[$doc])* pub fn $name(&self) -> bool { self.words[Self::PACKED] & Self::$bit != 0 })*
-
-            /// The names of the flags, and whether each is set.
-            fn named_flags(&self) -> [(&'static str, bool); 12] {
                 [$((stringify!($name), self.$name())),*]
             }
         }
@@ -81,33 +72,6 @@ words! {
     SHIFT_OUT shift_out 15
 }
 
-flags! {
-    /// The row writes a result.
-    WE we 0
-    /// A branch is taken.
-    BRANCH_TAKEN branch_taken 1
-    /// An addition, a difference, an unsigned comparison, a load or a branch.
-    IS_ARITH is_arith 2
-    /// XOR, OR or AND.
-    IS_LOGIC is_logic 3
-    /// A difference of registers, an unsigned comparison or a branch.
-    IS_SUB_OP is_sub_op 4
-    /// A shift of one row.
-    IS_SHIFT is_shift 5
-    /// A load.
-    IS_LOAD is_load 6
-    /// A store.
-    IS_STORE is_store 7
-    /// A load of a byte.
-    LD_BYTE ld_byte 8
-    /// A load of two bytes.
-    LD_HALF ld_half 9
-    /// A load of neither one byte nor two.
-    LD_WORD ld_word 10
-    /// The halting cycle, and every padding cycle.
-    HALTED_LATCH halted_latch 11
-}
-
 impl<'a> Record<'a> {
     /// The place of byte_offset + 2^8 × store_width + 2^16 × flags.
     pub const PACKED: usize = 16;
@@ -131,6 +95,11 @@ impl<'a> Record<'a> {
     pub fn store_width(&self) -> u8 {
         (self.words[Self::PACKED] >> 8) as u8
     }
+
+    /// The flags, which can be read one by one as well.
+    pub fn flags(&self) -> Flags {
+        Flags::new(self.words[Self::PACKED] >> 16)
+    }
 }
 
 impl fmt::Debug for Record<'_> {
@@ -141,16 +110,32 @@ impl fmt::Debug for Record<'_> {
         }
         fields.field("byte_offset", &self.byte_offset());
         fields.field("store_width", &self.store_width());
-        for (name, is_set) in self.named_flags() {
-            fields.field(name, &is_set);
-        }
+        fields.field("flags", &self.flags());
         fields.finish()
+    }
+}
+
+impl fmt::Display for Record<'_> {
+    fn fmt(&self, f: &mut fmt::Formatter) -> fmt::Result {
+        write!(f, "row {} -> {}: ", self.micro_pc(), self.next_pc())?;
+        // Not "was": rd_old of a jump with a link is the link.
+        let (rd, value, old) = (self.rd(), self.rd_val(), self.rd_old());
+        write!(f, "register {rd} = {value} (rd_old {old}); ")?;
+        let word = self.ram_addr();
+        if self.is_store() {
+            let (new, old) = (self.ram_new(), self.ram_old());
+            write!(f, "RAM word {word} = {new} (ram_old {old}); ")?;
+        } else if self.is_load() {
+            write!(f, "RAM word {word} is {}; ", self.ram_word())?;
+        }
+        write!(f, "flags {}", self.flags())
     }
 }
 
 /// The records of a buffer, in order. Words after the last whole record are left
 /// out. A call may have written fewer records than the buffer has room for: lend
-/// this the written ones only.
+/// this the written ones only, or take
+/// [`Execution::records`](crate::Execution::records).
 ///
 /// ```
 /// use magnetar_cpu::{records, RECORD_WORDS};
@@ -159,66 +144,88 @@ impl fmt::Debug for Record<'_> {
 /// assert_eq!(records(&buffer).len(), 2);
 /// assert!(records(&buffer).all(|record| record.rd_val() == 7));
 /// ```
-pub fn records(
-    buffer: &[u64],
-) -> impl DoubleEndedIterator<Item = Record<'_>> + ExactSizeIterator + Clone {
-    let words = buffer.chunks_exact(RECORD_WORDS);
-    words.map(|words| Record::new(words.try_into().expect("the words of a record")))
+pub fn records(buffer: &[u64]) -> Records<'_> {
+    Records {
+        words: buffer.chunks_exact(RECORD_WORDS),
+    }
+}
+
+/// What [`records`] gives.
+#[derive(Clone)]
+pub struct Records<'a> {
+    words: ChunksExact<'a, u64>,
+}
+
+fn view(words: &[u64]) -> Record<'_> {
+    Record::new(words.try_into().expect("the words of a record"))
+}
+
+impl<'a> Iterator for Records<'a> {
+    type Item = Record<'a>;
+
+    fn next(&mut self) -> Option<Record<'a>> {
+        self.words.next().map(view)
+    }
+
+    fn nth(&mut self, place: usize) -> Option<Record<'a>> {
+        self.words.nth(place).map(view)
+    }
+
+    fn size_hint(&self) -> (usize, Option<usize>) {
+        self.words.size_hint()
+    }
+}
+
+impl<'a> DoubleEndedIterator for Records<'a> {
+    fn next_back(&mut self) -> Option<Record<'a>> {
+        self.words.next_back().map(view)
+    }
+}
+
+impl ExactSizeIterator for Records<'_> {}
+
+impl FusedIterator for Records<'_> {}
+
+impl fmt::Debug for Records<'_> {
+    fn fmt(&self, f: &mut fmt::Formatter) -> fmt::Result {
+        f.debug_list().entries(self.clone()).finish()
+    }
 }
 
 #[cfg(test)]
 mod tests {
     use super::*;
+    use std::format;
+    use std::vec::Vec;
 
     #[test]
     fn every_word_has_its_own_name() {
-        let words = std::array::from_fn(|place| place as u64 + 100);
+        let words = core::array::from_fn(|place| place as u64 + 100);
         let record = Record::new(&words);
         assert_eq!(record.named_words().map(|(_, word)| word), words[..16]);
     }
 
-    /// 01's order: a reader of another bit would tell another name.
     #[test]
-    fn every_flag_has_its_own_bit() {
-        let names = [
-            "we",
-            "branch_taken",
-            "is_arith",
-            "is_logic",
-            "is_sub_op",
-            "is_shift",
-            "is_load",
-            "is_store",
-            "ld_byte",
-            "ld_half",
-            "ld_word",
-            "halted_latch",
-        ];
-        for (bit, wanted) in names.into_iter().enumerate() {
-            let mut words = [0; RECORD_WORDS];
-            words[16] = 0x0807 | 0x1_0000 << bit;
-            let record = Record::new(&words);
-            let set = record.named_flags().into_iter().filter(|flag| flag.1);
-            assert_eq!(set.collect::<Vec<_>>(), [(wanted, true)]);
-            assert_eq!((record.byte_offset(), record.store_width()), (7, 8));
-        }
-    }
-
-    #[test]
-    fn the_text_of_a_record_names_its_fields() {
+    fn the_fields_of_a_record() {
         let mut words = [0; RECORD_WORDS];
         words[3] = 1200;
-        words[16] = 1 << 27;
+        words[16] = 1 << 27 | 0x0807;
         let text = format!("{:?}", Record::new(&words));
         assert!(text.starts_with("Record { micro_pc: 0, rs1_val: 0, rs2_val: 0, rd_val: 1200,"));
-        assert!(text.ends_with("ld_word: false, halted_latch: true }"));
+        assert!(text.ends_with("byte_offset: 7, store_width: 8, flags: Flags(halted_latch) }"));
+        assert_eq!(format!("{:?}", records(&words)), format!("[{text}]"));
     }
 
     #[test]
     fn a_buffer_that_ends_inside_a_record() {
-        let buffer: Vec<u64> = (0..50).collect();
-        let firsts: Vec<u64> = records(&buffer).map(|record| record.micro_pc()).collect();
-        assert_eq!(firsts, [0, 17]);
+        let buffer: Vec<u64> = (0..70).collect();
+        let firsts = |records: &mut dyn Iterator<Item = Record>| -> Vec<u64> {
+            records.map(|record| record.micro_pc()).collect()
+        };
+        assert_eq!(firsts(&mut records(&buffer)), [0, 17, 34, 51]);
+        assert_eq!(firsts(&mut records(&buffer).rev()), [51, 34, 17, 0]);
+        assert_eq!(firsts(&mut records(&buffer).skip(2)), [34, 51]);
+        assert_eq!(records(&buffer).len(), 4);
         assert_eq!(records(&[]).len(), 0);
     }
 }

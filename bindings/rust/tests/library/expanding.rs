@@ -90,6 +90,23 @@ fn the_longest_program() {
     assert_eq!(refusal(&program, MAX_ROWS + 1, MAX_PROGRAM_WORDS + 1), 2);
 }
 
+/// Rows and starts in memory of their own, exactly as long as they must be.
+#[cfg(feature = "alloc")]
+#[test]
+fn owned_rows() {
+    use magnetar_cpu::Expansion;
+    let expansion = Expansion::new(&[ADDI, SLL, ECALL]).expect("accepted");
+    let rows = [&[ADDI.into()], &shift_rows()[..], &[ECALL.into()]].concat();
+    assert_eq!((expansion.rows, expansion.starts), (rows, vec![0, 1, 7]));
+    let mut program = vec![SLL; MAX_PROGRAM_WORDS];
+    let longest = Expansion::new(&program).expect("accepted");
+    assert_eq!(longest.rows.len(), MAX_ROWS);
+    assert_eq!(longest.starts.len(), MAX_PROGRAM_WORDS);
+    program.push(ADDI);
+    assert_eq!(Expansion::new(&program), Err(Refusal::TooManyRows));
+    assert_eq!(Expansion::new(&[]), Err(Refusal::NoRows));
+}
+
 /// Slices of Rust that hold nothing point nowhere.
 #[test]
 fn empty_slices() {

@@ -9,6 +9,8 @@ mod guarded;
 mod names;
 mod running;
 mod same;
+mod stopping;
+mod texts;
 
 use magnetar_cpu::{cursor_words, Cursor, Image};
 
