@@ -262,7 +262,11 @@ MAGNETAR_MUST_USE
 uint64_t magnetar_same(const uint64_t a[MAGNETAR_CURSOR_WORDS],
                        const uint64_t b[MAGNETAR_CURSOR_WORDS]);
 
-/* The library's own MAGNETAR_CURSOR_WORDS, so that a caller can compare. */
+/*
+ * The library's own MAGNETAR_CURSOR_WORDS. Compare it once before the first
+ * call: a library of another version may have a longer cursor, and would write
+ * past an array of this header's length.
+ */
 MAGNETAR_MUST_USE
 uint64_t magnetar_cursor_words(void);
 
