@@ -1,5 +1,6 @@
 # A tariff with two prices, as a billing rule. Input word 0 is the old meter reading, word 1 the new one, both in kWh.
 # Each of the first 100 kWh costs 32 cents, each further one 24. The output is the sum in cents.
+# It does not look whether the new reading is below the old one: the difference then wraps, and the output is no sum.
 # Only instructions that the recorder executes as the manual says; docs/RULES.md has the list.
         ld      x5, 0(x0)       # old reading
         ld      x6, 8(x0)       # new reading

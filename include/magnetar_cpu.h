@@ -15,7 +15,8 @@
  *   is nothing to lend, give the address of a variable of that type.
  * - Behind every cursor pointer are MAGNETAR_CURSOR_WORDS words; behind count,
  *   live and record_count is one.
- * - What one call is lent does not overlap.
+ * - What a call writes overlaps nothing else that it is lent. Places that it
+ *   only reads may overlap.
  * - Words that are only written need no content before the call.
  *
  * Rules for answers, but for magnetar_is_expansion, magnetar_same and
@@ -212,7 +213,9 @@ uint64_t magnetar_segment(const uint64_t *rows, size_t rows_len,
 /*
  * Runs `length` padding cycles at row next_fetch, also on a live machine. Each
  * writes the cursor's output to the register that the row names (32 for 0);
- * the five numbers of the cursor stay, but the halted word becomes 0 or 1.
+ * the five numbers of the cursor stay, but the halted word becomes 0 or 1. So
+ * pad a machine that has halted, or a copy of the cursor: a live machine goes on
+ * with the register overwritten, to another result.
  *
  * Refused: 1, 2, 3, 4 and 6 as magnetar_segment does; there is no 5, for cycles
  * does not grow.
@@ -241,8 +244,9 @@ uint64_t magnetar_padding(const uint64_t *rows, size_t rows_len,
  * Written: the count of live cycles, *live; the count of records,
  * *record_count, the smallest power of two that is at least *live and 1; the
  * records, 17 * *record_count words from records[0] on; the cursor after the
- * padding, all its words. It can be lent to further calls; what it held before
- * does not matter.
+ * padding, all its words; what it held before does not matter. If the run has
+ * halted, it can be lent to further calls. If not, padding may have overwritten
+ * a register: do not go on from it.
  */
 MAGNETAR_MUST_USE
 uint64_t magnetar_execute(const uint64_t *rows, size_t rows_len,

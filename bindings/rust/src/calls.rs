@@ -101,6 +101,22 @@ pub fn segment(
 /// shows row next_fetch and writes the output into that row's destination; the
 /// cursor's cycles do not grow.
 ///
+/// Pad a machine that has halted, or a clone of the cursor: a live machine goes on
+/// with the register overwritten, to another result.
+///
+/// ```
+/// use magnetar_cpu::{padding, segment, start, RECORD_WORDS};
+///
+/// let rows = [0x0055_0513, 0x0055_0513, 0x0000_0073]; // x10 += 5, twice; ecall
+/// let mut records = [0; 2 * RECORD_WORDS];
+/// let mut cursor = start(&[]);
+/// segment(&rows, &mut cursor, 1, &mut records)?;
+/// padding(&rows, &mut cursor, 1, &mut records)?;
+/// segment(&rows, &mut cursor, 2, &mut records)?;
+/// assert_eq!(cursor.output(), 5);
+/// # Ok::<(), magnetar_cpu::Refusal>(())
+/// ```
+///
 /// # Errors
 ///
 /// As for [`segment`], but that [`Refusal::TooManyCycles`] is none of them.
@@ -129,7 +145,8 @@ pub struct Execution {
     /// How many records were written: the smallest power of two that is at least
     /// 1 and at least the live count. Those past the live ones are padding.
     pub record_count: usize,
-    /// The cursor after padding.
+    /// The cursor after padding. With [`Stop::Limit`] do not go on from it: padding
+    /// may have overwritten a register of the live machine.
     pub cursor: Cursor,
     /// Why the machine stopped: at a halt, or because `max_cycles` were run.
     pub stop: Stop,

@@ -1,5 +1,5 @@
 // The C interface over plain words. A slice is a pointer and a length, an array a pointer: not null and aligned, also
-// where the length is 0; buffers lent to one call do not overlap. Where a call can be refused, 0 is accepted and any other
+// where the length is 0; what a call writes overlaps nothing else lent to it. Where a call can be refused, 0 is accepted and any other
 // number a refusal of document 01's table, after which nothing behind any pointer has changed.
 ghost use mathlib.Core.Path.{_≡_};
 ghost use Prim.Native.Nat.{_+_, _≤_};
