@@ -12,6 +12,7 @@ struct execution {
     const char *text;
     const uint64_t *rows;
     size_t rows_len, input_len;
+    int rows_are_input;
     uint64_t max_cycles;
     size_t room;
     uint64_t answer, live, count;
@@ -37,13 +38,15 @@ static void execute_case(enum placement placement, const struct execution *c)
         words[i] = MOST - i;
     begin(placement, "magnetar_execute", text);
     const uint64_t *rows = lend_words("rows", c->rows, c->rows_len);
-    const uint64_t *input = lend_words("input", words, c->input_len);
+    /* What is only read may overlap. */
+    const uint64_t *given = c->rows_are_input ? c->rows : words;
+    const uint64_t *input = c->rows_are_input ? rows : lend_words("input", words, c->input_len);
     uint64_t *records = lend_room("records", NULL, c->room);
     uint64_t *cursor = lend_room("cursor", NULL, MAGNETAR_CURSOR_WORDS);
     uint64_t *live = lend_room("live", NULL, 1);
     uint64_t *count = lend_room("record_count", NULL, 1);
     if (c->answer == MAGNETAR_ACCEPTED) {
-        expect_run(c, words, records, cursor);
+        expect_run(c, given, records, cursor);
         expect(live, &c->live, 1);
         expect(count, &c->count, 1);
     }
@@ -72,6 +75,7 @@ static void accepted(enum placement placement)
         {"an input word", RULE, .input_len = 1, .max_cycles = 3, .room = 68, .live = 3, .count = 4},
         {"two input words", RULE, .input_len = 2, .max_cycles = 3, .room = 68, .live = 3, .count = 4},
         {"256 input words", RULE, .input_len = 256, .max_cycles = 3, .room = 68, .live = 3, .count = 4},
+        {"the rows as input", RULE, .rows_are_input = 1, .input_len = 3, .max_cycles = 3, .room = 68, .live = 3, .count = 4},
         {"257 input words", RULE, .input_len = 257, .max_cycles = 3, .room = 68, .live = 3, .count = 4},
     };
     run_executions(placement, cases, sizeof cases / sizeof *cases);

@@ -8,14 +8,15 @@
  *
  * Every buffer is exactly as long as the call is told. A caller who tells a
  * length that is not there is outside the contract, and so are null pointers,
- * pointers that are not aligned and buffers that overlap: none of them is tried.
+ * pointers that are not aligned and buffers that are written and overlap: none of
+ * them is tried.
  */
 #include "cases.h"
 #include <stdio.h>
 #include <string.h>
 
 /* The checks when this was written; fewer mean that cases were lost. Those of 2^32 cycles are not always run. */
-#define SMALL_CHECKS 21795
+#define SMALL_CHECKS 22941
 #define LIMIT_CHECKS 54
 
 int main(int argc, char **argv)

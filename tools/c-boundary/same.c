@@ -23,8 +23,31 @@ static int counts(size_t at)
     return at != MAGNETAR_CURSOR_REGS && at != MAGNETAR_CURSOR_CYCLES && at != MAGNETAR_CURSOR_NEXT_FETCH;
 }
 
+/*
+ * What is only read may overlap. The images lie in one run of words, all 1 but
+ * the word ODD, which is 2 and in the second image only.
+ */
+#define ODD 350
+#define MOST_APART 187
+
+static void overlapping(enum placement placement, size_t distance)
+{
+    char text[40];
+    snprintf(text, sizeof text, "images %zu words apart", distance);
+    uint64_t words[MAGNETAR_CURSOR_WORDS + MOST_APART];
+    for (size_t i = 0; i < MAGNETAR_CURSOR_WORDS + MOST_APART; i++)
+        words[i] = i == ODD ? 2 : 1;
+    size_t at = ODD - distance;
+    int differ = at < MAGNETAR_CURSOR_WORDS && at != MAGNETAR_CURSOR_HALTED && counts(at);
+    begin(placement, "magnetar_same", text);
+    const uint64_t *lent = lend_words("a and b", words, MAGNETAR_CURSOR_WORDS + distance);
+    end(magnetar_same(lent, lent + distance), !differ);
+}
+
 void same_cases(enum placement placement)
 {
+    for (size_t distance = 0; distance <= MOST_APART; distance++)
+        overlapping(placement, distance);
     for (size_t at = 0; at < MAGNETAR_CURSOR_WORDS; at++) {
         same_case(placement, at, 1, 1, 1);
         same_case(placement, at, 0, 1, !counts(at));
