@@ -14,7 +14,7 @@ use Rattle.interp.specs.Readings.{Signed}
 use Rattle.interp.specs.Execute.{ExecuteLaws}
 use Rattle.interp.proofs.values.Readings.{signed-claims}
 use Rattle.interp.proofs.executing.Executing.{execute-laws}
-use Rattle.interp.proofs.arms.Lawful.{alu-flags-lt}
+use Rattle.interp.proofs.arms.Flags.{alu-flags-lt}
 use Rattle.interp.proofs.calls.Runs.{end-suc}
 use Rattle.interp.proofs.refusals.Judged.{refused-not-0}
 use Rattle.interp.proofs.Sizes.{start-sized, live-sized, padding-sized, answer-sized, execute-sized}

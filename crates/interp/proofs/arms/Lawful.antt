@@ -1,6 +1,6 @@
 -- What an arm owes, `Lawful`: each arm has one law, and nothing past this file looks at an arm. No law opens a value. Assumes nothing.
 use mathlib.Core.Path.{_≡_, refl}
-use mathlib.Core.Bool.{Bool, true, false, cond, _&&_}
+use mathlib.Core.Bool.{Bool, true, false, cond}
 use mathlib.Core.List.{List}
 use Prim.Native.Nat.{ℕ, zero, suc, _%_, _<_}
 use native.Mathlib.Nat.{mod-lt}
@@ -17,10 +17,11 @@ use Rattle.interp.specs.declared.effect.Effect.{Effect}
 use Rattle.interp.specs.declared.effect.Scratch.{Scratch}
 use Rattle.interp.specs.declared.effect.Shown.{Shown}
 use Rattle.interp.specs.declared.effect.Write.{Write}
-use Rattle.interp.specs.Values.{registerForm, alternate, branchTaken}
+use Rattle.interp.specs.Values.{branchTaken}
 use Rattle.interp.specs.Machine.{cell}
-use Rattle.interp.specs.Cycle.{rowAfter, redirect, noAccess, subFlag, aluFlags, aluArm, stageEffect, stageArm, loadFlag, loadArm, storeArm, branchFlags, branchArm, upperArm, jumpTarget, jumpArm, systemArm, armOf, paddingArm}
+use Rattle.interp.specs.Cycle.{rowAfter, redirect, noAccess, aluArm, stageEffect, stageArm, loadArm, storeArm, branchArm, upperArm, jumpTarget, jumpArm, systemArm, armOf, paddingArm}
 use Rattle.interp.specs.Code.{InRange, Sound}
+use Rattle.interp.proofs.arms.Flags.{cond-lt, alu-flags-lt, load-flag-lt, branch-flags-lt}
 use Rattle.interp.proofs.values.Targets.{target-lt}
 use Rattle.interp.proofs.values.Widths.{width-at-most}
 
@@ -35,10 +36,6 @@ pub record Lawful (count : ℕ) (e : Effect) : Type 0 where
 
 -- ---- tests
 
-pub cond-lt : (b : Bool) {x y n : ℕ} → x < n → y < n → cond b x y < n
-cond-lt true p q = p
-cond-lt false p q = q
-
 cond-lawful : {count : ℕ} (b : Bool) {d e : Effect} → Lawful count d → Lawful count e → Lawful count (cond b d e)
 cond-lawful true p q = p
 cond-lawful false p q = q
@@ -47,33 +44,6 @@ cond-lawful false p q = q
 
 pub redirect-lt : (rd : ℕ) → rd < 32 → redirect rd < 64
 redirect-lt rd h = cond-lt (eqb rd 0) (omega arith) (omega arith)
-
-pub sub-flag-lt : (raw : ℕ) → subFlag raw < 0x11
-sub-flag-lt raw = cond-lt (registerForm raw && alternate raw) (omega arith) (omega arith)
-
--- those of an ALU row stay below is_store
-pub alu-flags-lt : (f raw : ℕ) → aluFlags f raw < 0x80
-unfolding aluFlags
-alu-flags-lt f raw =
-    cond-lt (eqb f 0) (omega (arith, sub-flag-lt raw))
-    (cond-lt (eqb f 1) (omega arith)
-    (cond-lt (eqb f 3) (omega arith)
-    (cond-lt (eqb f 4) (omega arith)
-    (cond-lt (eqb f 5) (omega arith)
-    (cond-lt (eqb f 6) (omega arith)
-    (cond-lt (eqb f 7) (omega arith) (omega arith)))))))
-
-pub load-flag-lt : (f : ℕ) → loadFlag f < 0x401
-unfolding loadFlag
-load-flag-lt f =
-    cond-lt (eqb f 0) (omega arith)
-    (cond-lt (eqb f 4) (omega arith)
-    (cond-lt (eqb f 1) (omega arith)
-    (cond-lt (eqb f 5) (omega arith) (omega arith))))
-
-branch-flags-lt : (taken : Bool) → branchFlags taken < 0x1000
-branch-flags-lt true = omega arith
-branch-flags-lt false = omega arith
 
 redirect-pos : (rd : ℕ) → 0 < redirect rd
 redirect-pos zero = omega arith

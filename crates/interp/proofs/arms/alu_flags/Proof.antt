@@ -2,7 +2,7 @@
 use borrow.Author.Tests.{ne-eqb}
 use native.Mathlib.Omega.{arith}
 use Rattle.interp.specs.Cycle.{aluFlags}
-use Rattle.interp.proofs.arms.Lawful.{sub-flag-lt}
+use Rattle.interp.proofs.arms.Flags.{sub-flag-lt}
 use borrow.Author.Needs.{needs}
 use Rattle.interp.proofs.arms.alu_flags.Statement.{statement}
 use Rattle.interp.proofs.arms.alu_flags.Tie as tie

@@ -1,6 +1,6 @@
 -- `interp::load_flags` meets its contract. Assumes nothing.
 use native.Mathlib.Omega.{arith}
-use Rattle.interp.proofs.arms.Lawful.{load-flag-lt}
+use Rattle.interp.proofs.arms.Flags.{load-flag-lt}
 use borrow.Author.Needs.{needs}
 use Rattle.interp.proofs.arms.load_flags.Statement.{statement}
 use Rattle.interp.proofs.arms.load_flags.Tie as tie
