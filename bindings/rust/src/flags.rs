@@ -46,11 +46,11 @@ flags! {
     WE we 0
     /// A branch is taken.
     BRANCH_TAKEN branch_taken 1
-    /// An addition, a difference, an unsigned comparison, a load or a branch.
+    /// An addition, a difference, a comparison, a load or a branch.
     IS_ARITH is_arith 2
     /// XOR, OR or AND.
     IS_LOGIC is_logic 3
-    /// A difference of registers, an unsigned comparison or a branch.
+    /// A difference of registers, a comparison or a branch.
     IS_SUB_OP is_sub_op 4
     /// A shift of one row.
     IS_SHIFT is_shift 5

@@ -63,11 +63,12 @@ unfoldable pub aluFlags : ℕ → ℕ → ℕ
 aluFlags f raw =
     cond (eqb f 0) (flag.we + flag.isArith + subFlag raw)
     (cond (eqb f 1) (flag.we + flag.isShift)
+    (cond (eqb f 2) (flag.we + flag.isArith + flag.isSubOp)
     (cond (eqb f 3) (flag.we + flag.isArith + flag.isSubOp)
     (cond (eqb f 4) (flag.we + flag.isLogic)
     (cond (eqb f 5) (flag.we + flag.isShift)
     (cond (eqb f 6) (flag.we + flag.isLogic)
-    (cond (eqb f 7) (flag.we + flag.isLogic) flag.we))))))
+    (cond (eqb f 7) (flag.we + flag.isLogic) flag.we)))))))
 
 -- shift_out shows the value of funct3 1 and 5
 abbrev pub shiftOut : ℕ → ℕ → ℕ

@@ -24,7 +24,7 @@ stagesValue (suc k) funct3 raw a b = stageValue (suc k) funct3 raw (stagesValue 
 
 -- the three forms of interp.rs that read a word as i64, said on integers; and the stages in turn
 pub record Signed : Type 0 where
-  -- the order of the signed numbers
+  -- the order of the signed numbers, for branches and signed set-less-than
   pub order : (a b : ℕ) → a < 2 ^ 64 → b < 2 ^ 64 → less a b ≡ ltZ (signedWord a) (signedWord b)
   -- the signed number by 2^k, rounded down
   pub floor : (x k : ℕ) → x < 2 ^ 64 → signedWord (signedRight x k) ≡ shrZ (signedWord x) (2 ^ k)

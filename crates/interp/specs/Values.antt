@@ -63,16 +63,17 @@ shift funct3 raw x k = shiftAt (eqb funct3 1) (eqb funct3 5) (alternate raw) x k
 unfoldable pub sum : ℕ → ℕ → ℕ → ℕ
 sum raw a b = cond (registerForm raw && alternate raw) (minus a b) (plus a b)
 
--- of a and the second operand b; funct3 2 gives 0, and 3 compares unsigned
+-- of a and the second operand b; funct3 2 compares signed (T-01; interp.rs has 0), 3 unsigned
 unfoldable pub aluValue : ℕ → ℕ → ℕ → ℕ → ℕ
 aluValue funct3 raw a b =
     cond (eqb funct3 0) (sum raw a b)
     (cond (eqb funct3 1) (shift 1 raw a (b % 64))
+    (cond (eqb funct3 2) (boolWord (less a b))
     (cond (eqb funct3 3) (boolWord (ltb a b))
     (cond (eqb funct3 4) (bitXor a b)
     (cond (eqb funct3 5) (shift 5 raw a (b % 64))
     (cond (eqb funct3 6) (bitOr a b)
-    (cond (eqb funct3 7) (bitAnd a b) 0))))))
+    (cond (eqb funct3 7) (bitAnd a b) 0)))))))
 
 -- the immediate; opcode 0x17, AUIPC, adds 4 × mp
 unfoldable pub upperValue : ℕ → ℕ → MicroPc → ℕ

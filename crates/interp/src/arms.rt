@@ -37,6 +37,7 @@ fn alu_flags(funct3: u32, raw: u32) -> u64
     match funct3 {
         0 => CycleRecord::WE + CycleRecord::IS_ARITH + sub_flag(raw),
         1 => CycleRecord::WE + CycleRecord::IS_SHIFT,
+        2 => CycleRecord::WE + CycleRecord::IS_ARITH + CycleRecord::IS_SUB_OP,
         3 => CycleRecord::WE + CycleRecord::IS_ARITH + CycleRecord::IS_SUB_OP,
         4 => CycleRecord::WE + CycleRecord::IS_LOGIC,
         5 => CycleRecord::WE + CycleRecord::IS_SHIFT,

@@ -85,13 +85,14 @@ fn add_or_sub(raw: u32, a: u64, b: u64) -> u64
     }
 }
 
-// What an ALU row writes, of a and the second operand b.
+// What an ALU row writes, of a and the second operand b. Of funct3 2 the source writes 0; request T-01 has it compare.
 pub(crate) fn alu_value(funct3: u32, raw: u32, a: u64, b: u64) -> u64
     ensures { λ r. ⌜ r ≡ aluValue funct3 raw a b ⌝ }
 {
     match funct3 {
         0 => add_or_sub(raw, a, b),
         1 => shift_by(1, raw, a, b),
+        2 => bool_word(signed_less(a, b)),
         3 => bool_word(a < b),
         4 => a ^ b,
         5 => shift_by(5, raw, a, b),

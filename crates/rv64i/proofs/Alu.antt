@@ -8,9 +8,9 @@ use borrow.Author.Tests.{ne-eqb}
 use Rattle.decode.specs.Manual as manual
 use Rattle.decode.specs.Manual.{Major, number, bits, signed, I-immediate, Word}
 use Rattle.interp.specs.Values.{secondOperand, sum, shiftAt, aluValue}
-use Rattle.rv64i.specs.Manual.{low, Immediate, ADDI, SLTIU, XORI, ORI, ANDI, immediate, Operation, ADD, SUB, SLTU, XOR, OR, AND, operation, ConstantShift, SLLI, SRLI, SRAI, constant-shift, shamt, Encoded7, IsImmediate, IsConstantShift, IsOperation, i-immediate}
+use Rattle.rv64i.specs.Manual.{low, Immediate, ADDI, SLTI, SLTIU, XORI, ORI, ANDI, immediate, Operation, ADD, SUB, SLT, SLTU, XOR, OR, AND, operation, ConstantShift, SLLI, SRLI, SRAI, constant-shift, shamt, Encoded7, IsImmediate, IsConstantShift, IsOperation, i-immediate}
 use Rattle.rv64i.specs.Agreement.{most}
-use Rattle.rv64i.proofs.Words.{lt-or-ge, minus-is, signed-right-is, signed-low, signed-high}
+use Rattle.rv64i.proofs.Words.{lt-or-ge, minus-is, less-is, signed-right-is, signed-low, signed-high}
 
 -- opcode number and funct7, as the values look at them
 pub number-of : {m : Major} {inst : ℕ} → Word m inst → inst % 2 ^ 7 ≡ number m
@@ -24,6 +24,7 @@ pub immediate-agrees : (i : Immediate) (inst a b imm : ℕ) → IsImmediate i in
     → aluValue (manual.funct3 inst) inst a (secondOperand inst b imm) ≡ immediate i .gives a imm
 unfolding aluValue sum low
 immediate-agrees ADDI inst a b imm e ha hi = rw (e .funct3, number-of (e .word))
+immediate-agrees SLTI inst a b imm e ha hi = rw (e .funct3, number-of (e .word), less-is a imm ha hi)
 immediate-agrees SLTIU inst a b imm e ha hi = rw (e .funct3, number-of (e .word))
 immediate-agrees XORI inst a b imm e ha hi = rw (e .funct3, number-of (e .word))
 immediate-agrees ORI inst a b imm e ha hi = rw (e .funct3, number-of (e .word))
@@ -35,6 +36,7 @@ pub operation-agrees : (i : Operation) (inst a b imm : ℕ) → IsOperation i in
 unfolding aluValue sum low
 operation-agrees ADD inst a b imm e ha hb = rw (e .encoded .funct3, number-of (e .encoded .word), funct7-of e)
 operation-agrees SUB inst a b imm e ha hb = rw (e .encoded .funct3, number-of (e .encoded .word), funct7-of e) (minus-is a b ha hb)
+operation-agrees SLT inst a b imm e ha hb = rw (e .encoded .funct3, number-of (e .encoded .word), less-is a b ha hb)
 operation-agrees SLTU inst a b imm e ha hb = rw (e .encoded .funct3, number-of (e .encoded .word))
 operation-agrees XOR inst a b imm e ha hb = rw (e .encoded .funct3, number-of (e .encoded .word))
 operation-agrees OR inst a b imm e ha hb = rw (e .encoded .funct3, number-of (e .encoded .word))

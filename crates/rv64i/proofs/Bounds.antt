@@ -9,7 +9,7 @@ use lib.Bits.{and-lt, or-lt, xor-lt}
 use lib.Dec.{eqb, ltb}
 use lib.Pow.{pow-pos, pow-add, shr-lt, shr-le}
 use Rattle.expand.specs.declared.MicroPc.{MicroPc}
-use Rattle.interp.specs.Values.{signedRight, alternate, registerForm, secondOperand, shiftAt, sum, aluValue, stageAmount, stageValue, loadValue, storeWidth, merge, storeValue, upperValue}
+use Rattle.interp.specs.Values.{signedRight, less, alternate, registerForm, secondOperand, shiftAt, sum, aluValue, stageAmount, stageValue, loadValue, storeWidth, merge, storeValue, upperValue}
 
 pub cond-lt : (b : Bool) {x y n : ℕ} → x < n → y < n → cond b x y < n
 cond-lt true p q = p
@@ -32,11 +32,12 @@ unfolding aluValue sum
 two-lt f raw a b ha hb =
     cond-lt (eqb f 0) (cond-lt (registerForm raw && alternate raw) (omega arith) (omega arith))
     (cond-lt (eqb f 1) (shift-lt true false (alternate raw) a (b % 64) ha)
+    (cond-lt (eqb f 2) (cond-lt (less a b) (omega arith) (omega arith))
     (cond-lt (eqb f 3) (cond-lt (ltb a b) (omega arith) (omega arith))
     (cond-lt (eqb f 4) (xor-lt 64 a b ha hb)
     (cond-lt (eqb f 5) (shift-lt false true (alternate raw) a (b % 64) ha)
     (cond-lt (eqb f 6) (or-lt 64 a b ha hb)
-    (cond-lt (eqb f 7) (and-lt 64 a b ha hb) (omega arith)))))))
+    (cond-lt (eqb f 7) (and-lt 64 a b ha hb) (omega arith))))))))
 
 pub alu-lt : (f raw a b imm : ℕ) → a < 2 ^ 64 → b < 2 ^ 64 → imm < 2 ^ 64 → aluValue f raw a (secondOperand raw b imm) < 2 ^ 64
 alu-lt f raw a b imm ha hb hi = two-lt f raw a (secondOperand raw b imm) ha (cond-lt (registerForm raw) hb hi)

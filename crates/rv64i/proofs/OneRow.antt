@@ -21,7 +21,7 @@ use Rattle.interp.specs.declared.CycleRecord.{CycleRecord}
 use Rattle.interp.specs.Machine.{at, cell}
 use Rattle.interp.specs.Cycle.{aluArm, loadFlags, loadArm, storeArm, branchFlags, branchArm, upperArm, armOf, recordOf, scratched, regsAfter, stores as storing, ramAfter, commit, stepAt}
 use Rattle.interp.proofs.Above.{laws}
-use Rattle.rv64i.specs.Manual.{low, sum, difference, Immediate, immediate, IsImmediate, immediate-value, ConstantShift, constant-shift, IsConstantShift, constant-shift-value, shamt, Operation, ADD, SUB, SLTU, XOR, OR, AND, operation, IsOperation, operation-value, IsLui, lui-value, Load, load, IsLoad, load-value, load-address, Store, store, IsStore, stored, store-address, Branch, BEQ, BNE, BLT, BGE, BLTU, BGEU, branch, IsBranch, taken, x-rs1, x-rs2, i-immediate, s-immediate}
+use Rattle.rv64i.specs.Manual.{low, sum, difference, Immediate, immediate, IsImmediate, immediate-value, ConstantShift, constant-shift, IsConstantShift, constant-shift-value, shamt, Operation, ADD, SUB, SLT, SLTU, XOR, OR, AND, operation, IsOperation, operation-value, IsLui, lui-value, Load, load, IsLoad, load-value, load-address, Store, store, IsStore, stored, store-address, Branch, BEQ, BNE, BLT, BGE, BLTU, BGEU, branch, IsBranch, taken, x-rs1, x-rs2, i-immediate, s-immediate}
 use Rattle.rv64i.specs.Agreement.{bytes, stateOf, ZeroCell, after, shown, takenFlag, At, Accesses, Operates, Computes, Places, Loads, Stores, Branches, most, InWord}
 use Rattle.rv64i.proofs.Words.{low-lt, minus-is, less-is, not-ltb, not-ltZ}
 use Rattle.rv64i.proofs.Cells.{state, registers, past-31}
@@ -54,6 +54,7 @@ branch-quiet false = refl
 plain : (i : Operation) → shifts (operation i .funct3) ≡ false
 plain ADD = refl
 plain SUB = refl
+plain SLT = refl
 plain SLTU = refl
 plain XOR = refl
 plain OR = refl

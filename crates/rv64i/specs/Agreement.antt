@@ -1,4 +1,4 @@
--- What is claimed of the recorder against the manual (01, "Agreement with the manual"), over the live cycles of interp's
+-- What is claimed of the recorder against the manual (01, "Agreement with the manual", and T-01), over the live cycles of interp's
 -- specs/Cycle.antt. The function `agreement` of src/lib.rt has it for its contract. Assumes nothing: these are definitions.
 use mathlib.Core.Path.{_≡_}
 use Prim.Native.Nat.{ℕ, zero, suc, _+_, _-_, _/_, _%_, _^_, _≤_, _<_}
@@ -102,7 +102,7 @@ module _ (rows : List ℕ) (inst : ℕ) (c : Cursor) where
     pub next : after .«micro_pc» ≡ at next
     pub zero : ZeroCell after
 
-  -- ADD SUB XOR OR AND SLTU
+  -- ADD SUB XOR OR AND SLT SLTU
   pub record Operates (v : ℕ) : Type 0 where
     pub goes-on : GoesOn
     pub writes : Writes v
@@ -110,7 +110,7 @@ module _ (rows : List ℕ) (inst : ℕ) (c : Cursor) where
     pub rs2-val : shown .«rs2_val» ≡ x-rs2 inst s
     pub shows : Shows shown (x-rs1 inst s) (x-rs2 inst s) v
 
-  -- ADDI XORI ORI ANDI SLTIU, SLLI SRLI SRAI: the second operand is the I-immediate, of which a shift takes its low six bits
+  -- ADDI XORI ORI ANDI SLTI SLTIU, SLLI SRLI SRAI: the second operand is the I-immediate, of which a shift takes its low six bits
   pub record Computes (v : ℕ) : Type 0 where
     pub goes-on : GoesOn
     pub writes : Writes v
@@ -203,12 +203,12 @@ pub record Premises : Type 0 where
   pub segment-records : (rows : List ℕ) (inst : ℕ) (c : Cursor) → inst < 2 ^ 32 → At rows inst c → c .halted ≡ false
       → recorded (cycle rows) (cycles inst) c ≡ recorded (live rows) (cycles inst) c
 
--- a field for each group of 01's list
+-- a field for each group of 01's list, which SLT and SLTI of T-01 have joined
 pub record Agreement : Type 0 where
-  -- ADD SUB XOR OR AND SLTU
+  -- ADD SUB XOR OR AND SLT SLTU
   pub operations : (i : Operation) (rows : List ℕ) (inst : ℕ) (c : Cursor) → IsOperation i inst → At rows inst c
       → Operates rows inst c (operation-value i inst (stateOf c))
-  -- ADDI XORI ORI ANDI SLTIU
+  -- ADDI XORI ORI ANDI SLTI SLTIU
   pub immediates : (i : Immediate) (rows : List ℕ) (inst : ℕ) (c : Cursor) → IsImmediate i inst → At rows inst c
       → Computes rows inst c (immediate-value i inst (stateOf c))
   -- SLLI SRLI, SRAI by 0 to 31

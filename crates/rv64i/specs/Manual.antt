@@ -1,4 +1,4 @@
--- RV64I as the RISC-V Unprivileged ISA Manual has it, for the instructions of 01's list: its chapters on the base integer
+-- RV64I as the RISC-V Unprivileged ISA Manual has it, for the instructions of 01's list and T-01: its chapters on the base integer
 -- instruction sets and its instruction set listings. No copy was at hand, so the words in quotation marks are from memory
 -- (docs/DECISIONS.md). Fields and immediates are in the decoder's specs/Manual.antt. Nothing here knows rows, records or
 -- the source. Assumes nothing: these are definitions.
@@ -74,6 +74,10 @@ unequal a b = not (eqb a b)
 abbrev pub signed-less : ℕ → ℕ → Bool
 signed-less a b = ltZ (signed 64 a) (signed 64 b)
 
+-- a signed comparison, writing 1 or 0 likewise
+abbrev pub signed-below : ℕ → ℕ → ℕ
+signed-below a b = cond (signed-less a b) 1 0
+
 -- "greater than or equal to", "using signed comparison"
 abbrev pub signed-not-less : ℕ → ℕ → Bool
 signed-not-less a b = leZ (signed 64 b) (signed 64 a)
@@ -105,11 +109,12 @@ upper-entry upper funct3 gives = record { upper = upper; funct3 = funct3; gives 
 
 -- integer register-immediate instructions
 pub data Immediate : Type 0 where
-  ADDI SLTIU XORI ORI ANDI : Immediate
+  ADDI SLTI SLTIU XORI ORI ANDI : Immediate
 
 -- what goes to rd, of x[rs1] and the sign-extended immediate
 abbrev pub immediate : Immediate → Entry (ℕ → ℕ → ℕ)
 immediate ADDI = entry 0b000 sum
+immediate SLTI = entry 0b010 signed-below
 immediate SLTIU = entry 0b011 below
 immediate XORI = entry 0b100 bitXor
 immediate ORI = entry 0b110 bitOr
@@ -127,12 +132,13 @@ constant-shift SRAI = upper-entry 0b010000 0b101 arithmetic-right
 
 -- integer register-register operations
 pub data Operation : Type 0 where
-  ADD SUB SLTU XOR OR AND : Operation
+  ADD SUB SLT SLTU XOR OR AND : Operation
 
 -- what goes to rd, of x[rs1] and x[rs2]
 abbrev pub operation : Operation → UpperEntry (ℕ → ℕ → ℕ)
 operation ADD = upper-entry 0b0000000 0b000 sum
 operation SUB = upper-entry 0b0100000 0b000 difference
+operation SLT = upper-entry 0b0000000 0b010 signed-below
 operation SLTU = upper-entry 0b0000000 0b011 below
 operation XOR = upper-entry 0b0000000 0b100 bitXor
 operation OR = upper-entry 0b0000000 0b110 bitOr

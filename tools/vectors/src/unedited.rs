@@ -4,9 +4,12 @@
 use crate::calllist::CallList;
 use crate::{interp, programs, words};
 
-/// Whether an edit means to change this answer. There are no edits, so none does.
-fn may_change(_asked: Asked, _words: &[u32]) -> bool {
-    false
+/// Whether an edit means to change this answer: slt.edit those of a program that
+/// has an Alu row with funct3 2.
+fn may_change(asked: Asked, words: &[u32]) -> bool {
+    let compares =
+        |word: &u32| matches!(word & 0x7f, 0x13 | 0x1b | 0x33 | 0x3b) && word >> 12 & 7 == 2;
+    matches!(asked, Asked::Run) && words.iter().any(compares)
 }
 
 #[derive(Clone, Copy, Debug)]
@@ -78,6 +81,14 @@ macro_rules! answers_of {
                 text + &format!("{:?} {}", trace.records, state(&trace.final_state))
             }
 
+            /// What the first cycle of a word writes, and its flags we, is_arith and
+            /// is_sub_op.
+            pub fn written(word: u32) -> (u64, [bool; 3]) {
+                let record = &execute(&[word], &[], 1).records[0];
+                let flags = [record.we, record.is_arith, record.is_sub_op];
+                (record.rd_val, flags)
+            }
+
             fn state(st: &ExecState) -> String {
                 let numbers = (st.micro_pc, st.cycles, st.halted, st.output);
                 format!("{:?} {:?} {numbers:?}", st.regs, st.ram)
@@ -138,6 +149,18 @@ fn all_else_is_as_before() {
     let cases = cases();
     assert!(cases.iter().all(|case| !case.unedited.is_empty()));
     assert_eq!(fault(&cases, may_change), None);
+}
+
+/// The words that docs/DIFFERENCES.md gives for signed set-less-than. No smaller
+/// word writes another value or has other flags.
+#[test]
+fn the_smallest_words_of_slt() {
+    let both = |word| (unedited::written(word), reference::written(word));
+    let (we_alone, all) = ([true, false, false], [true; 3]);
+    assert_eq!(both(0x0000_2013), ((0, we_alone), (0, all)));
+    assert_eq!(both(0x0010_2093), ((0, we_alone), (1, all)));
+    let smaller = (0..0x0000_2013).map(both);
+    assert_eq!(smaller.filter(|(old, new)| old != new).count(), 0);
 }
 
 #[test]

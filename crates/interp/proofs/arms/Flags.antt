@@ -19,11 +19,12 @@ unfolding aluFlags
 alu-flags-lt f raw =
     cond-lt (eqb f 0) (omega (arith, sub-flag-lt raw))
     (cond-lt (eqb f 1) (omega arith)
+    (cond-lt (eqb f 2) (omega arith)
     (cond-lt (eqb f 3) (omega arith)
     (cond-lt (eqb f 4) (omega arith)
     (cond-lt (eqb f 5) (omega arith)
     (cond-lt (eqb f 6) (omega arith)
-    (cond-lt (eqb f 7) (omega arith) (omega arith)))))))
+    (cond-lt (eqb f 7) (omega arith) (omega arith))))))))
 
 pub load-flag-lt : (f : ℕ) → loadFlag f < 0x401
 unfolding loadFlag

@@ -32,6 +32,11 @@ impl Cycle<'_> {
         !self.is_padding && self.row.raw & 0x7f == opcode
     }
 
+    /// Whether it was a signed comparison.
+    fn is_slt(&self) -> bool {
+        self.is(VirtualKind::Alu) && self.row.funct3 == 2
+    }
+
     /// The byte distance of a branch that was taken, or of a JAL.
     fn distance(&self) -> Option<i64> {
         let jumps = self.record.branch_taken || self.has_opcode(0x6f);
@@ -59,7 +64,7 @@ impl Cycle<'_> {
     }
 }
 
-pub const WRONG: [Variant<OfCycle>; 24] = [
+pub const WRONG: [Variant<OfCycle>; 27] = [
     ("cell 0 is cleared after a shift", cleared_cell),
     ("a stage is logged as a write", logged_stage),
     ("cell 0 is a destination", |cycle| {
@@ -140,10 +145,26 @@ pub const WRONG: [Variant<OfCycle>; 24] = [
     ("the RAM word is read after the store", |cycle| {
         cycle.record.ram_word = cycle.after.st.ram[cycle.record.ram_addr];
     }),
-    ("funct3 2 compares", |cycle| {
-        if cycle.is(VirtualKind::Alu) && cycle.row.funct3 == 2 {
+    ("funct3 2 gives 0", |cycle| {
+        if cycle.is_slt() {
+            cycle.write(0);
+        }
+    }),
+    ("funct3 2 compares unsigned", |cycle| {
+        if cycle.is_slt() {
+            cycle.write(u64::from(cycle.record.alu_a < cycle.record.alu_b));
+        }
+    }),
+    ("funct3 2 has its operands changed over", |cycle| {
+        if cycle.is_slt() {
             let (a, b) = (cycle.record.alu_a as i64, cycle.record.alu_b as i64);
-            cycle.write(u64::from(a < b));
+            cycle.write(u64::from(b < a));
+        }
+    }),
+    ("funct3 2 has the flag we alone", |cycle| {
+        if cycle.is_slt() {
+            cycle.record.is_arith = false;
+            cycle.record.is_sub_op = false;
         }
     }),
     ("byte loads extend the sign", |cycle| {

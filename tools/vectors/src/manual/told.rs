@@ -88,6 +88,6 @@ impl Fields {
     }
 }
 
-/// The instructions on which the recorder agrees with the manual, by 01.
-pub const AGREEING: &str = "add sub xor or and sltu addi xori ori andi sltiu slli srli srai \
-    sll srl sra lbu sb lhu sh sw ld sd beq bne blt bge bltu bgeu lui";
+/// The instructions on which the recorder agrees with the manual, by 01 and T-01.
+pub const AGREEING: &str = "add sub xor or and slt sltu addi xori ori andi slti sltiu slli srli \
+    srai sll srl sra lbu sb lhu sh sw ld sd beq bne blt bge bltu bgeu lui";

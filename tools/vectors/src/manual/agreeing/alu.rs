@@ -1,12 +1,12 @@
-//! Arithmetic, logic, comparison without sign, and lui.
+//! Arithmetic, logic, comparisons, and lui.
 
 use super::{case, pairs, product, registers, values, Case, MIXED, STALE};
 use crate::asm::{lui, op, op_imm};
 
-/// funct7 and funct3 of add, sub, sltu, xor, or and and.
-const REGISTER_FORMS: [(u32, u32); 6] = [(0, 0), (0x20, 0), (0, 3), (0, 4), (0, 6), (0, 7)];
-/// funct3 of addi, sltiu, xori, ori and andi.
-const IMMEDIATE_FORMS: [u32; 5] = [0, 3, 4, 6, 7];
+/// funct7 and funct3 of add, sub, slt, sltu, xor, or and and.
+const REGISTER_FORMS: [(u32, u32); 7] = [(0, 0), (0x20, 0), (0, 2), (0, 3), (0, 4), (0, 6), (0, 7)];
+/// funct3 of addi, slti, sltiu, xori, ori and andi.
+const IMMEDIATE_FORMS: [u32; 6] = [0, 2, 3, 4, 6, 7];
 const IMMEDIATES: [i64; 5] = [0, 1, -1, -2048, 2047];
 /// Every other bit.
 const MIXED_IMMEDIATES: [i64; 2] = [0x555, -0x556];

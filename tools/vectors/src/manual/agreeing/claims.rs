@@ -11,8 +11,8 @@ use std::sync::LazyLock;
 
 static TOLD: LazyLock<Vec<Told>> = LazyLock::new(|| told("qemu.txt"));
 
-const ARITHMETIC: [&str; 6] = ["add", "sub", "xor", "or", "and", "sltu"];
-const IMMEDIATE: [&str; 5] = ["addi", "xori", "ori", "andi", "sltiu"];
+const ARITHMETIC: [&str; 7] = ["add", "sub", "xor", "or", "and", "slt", "sltu"];
+const IMMEDIATE: [&str; 6] = ["addi", "xori", "ori", "andi", "slti", "sltiu"];
 const SHIFTS: [&str; 3] = ["sll", "srl", "sra"];
 const IMMEDIATE_SHIFTS: [&str; 3] = ["slli", "srli", "srai"];
 const BRANCHES: [&str; 6] = ["beq", "bne", "blt", "bge", "bltu", "bgeu"];

@@ -28,7 +28,16 @@ fn registers() -> Vec<Difference> {
     let register_words = RESERVED.map(|funct3| register(op32(0, funct3, [2, 1, 2])));
     let words = words.into_iter().chain(register_words);
     let others = others.into_iter().chain(shifts);
-    others.chain(words).chain([mulw]).collect()
+    let others = others.chain(words).chain([mulw]);
+    others.chain(comparisons()).collect()
+}
+
+/// funct3 2 of the 32-bit forms, with -1 in x1: it is below the immediate, which of
+/// the register form is 0, and not below x2.
+fn comparisons() -> [Difference; 2] {
+    let before = [(1, u64::MAX), (2, u64::MAX - 1)];
+    [op_imm32(2, [2, 1], 5), op32(0, 2, [2, 1, 2])]
+        .map(|word| shown(Register(2), Undefined, &[word], &before, &[]))
 }
 
 /// The load and the stores have 8 bytes.
