@@ -269,7 +269,8 @@ uint64_t magnetar_same(const uint64_t a[MAGNETAR_CURSOR_WORDS],
 /*
  * The library's own MAGNETAR_CURSOR_WORDS. Compare it once before the first
  * call: a library of another version may have a longer cursor, and would write
- * past an array of this header's length.
+ * past an array of this header's length. The same length does not mean the
+ * same answers: a library before 0.2.0 gives 0 for slt and slti.
  */
 MAGNETAR_MUST_USE
 uint64_t magnetar_cursor_words(void);

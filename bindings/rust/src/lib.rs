@@ -56,7 +56,8 @@
 //!
 //! Library and crate must be of one version: with a library whose cursor has
 //! another length ([`cursor_words`]) the functions that take or give a cursor
-//! panic.
+//! panic. The same length does not mean the same answers: a library before 0.2.0
+//! gives 0 for slt and slti.
 //!
 //! The crate needs `core` only. The feature `alloc`, on by default, adds
 //! `Expansion`, which owns its rows; without it, [`expand`] writes into memory that

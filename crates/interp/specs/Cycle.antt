@@ -58,7 +58,7 @@ effect w a s next = record { write = w; access = a; shown = s; scratch = Kept; �
 abbrev pub subFlag : ℕ → ℕ
 subFlag raw = cond (registerForm raw && alternate raw) flag.isSubOp 0
 
--- the flags of an ALU row, by funct3
+-- the flags of an ALU row, by funct3; 2 has those of 3 (T-01; interp.rs has we alone)
 unfoldable pub aluFlags : ℕ → ℕ → ℕ
 aluFlags f raw =
     cond (eqb f 0) (flag.we + flag.isArith + subFlag raw)

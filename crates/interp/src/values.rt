@@ -85,7 +85,7 @@ fn add_or_sub(raw: u32, a: u64, b: u64) -> u64
     }
 }
 
-// What an ALU row writes, of a and the second operand b. Of funct3 2 the source writes 0; request T-01 has it compare.
+// What an ALU row writes, of a and the second operand b. Of funct3 2 the source writes 0; T-01 compares signed.
 pub(crate) fn alu_value(funct3: u32, raw: u32, a: u64, b: u64) -> u64
     ensures { λ r. ⌜ r ≡ aluValue funct3 raw a b ⌝ }
 {

@@ -14,7 +14,7 @@
 //     r I V    RAM word I
 //     t B      whether the branch is taken, where the last word is one
 //
-// of a case `d` one of these, V by the source, M by the manual, and of a case `u` the same without M:
+// of a case `d` one of these, V by the reference, M by the manual, and of a case `u` the same without M:
 //
 //     g I V M  register cell I
 //     r I V M  RAM word I
@@ -74,7 +74,7 @@ struct Run {
 }
 
 // What a result says: a place, CELLS where the line has another form, and its value after the run,
-// by the source and by the manual.
+// by the reference and by the manual.
 struct Said {
     place: usize,
     value: u64,

@@ -1,4 +1,4 @@
--- RV64I as the RISC-V Unprivileged ISA Manual has it, for the instructions of 01's list and T-01: its chapters on the base integer
+-- RV64I as the RISC-V Unprivileged ISA Manual has it, for 01's agreeing list, SLT and SLTI: its chapters on the base integer
 -- instruction sets and its instruction set listings. No copy was at hand, so the words in quotation marks are from memory
 -- (docs/DECISIONS.md). Fields and immediates are in the decoder's specs/Manual.antt. Nothing here knows rows, records or
 -- the source. Assumes nothing: these are definitions.
@@ -74,7 +74,7 @@ unequal a b = not (eqb a b)
 abbrev pub signed-less : ℕ → ℕ → Bool
 signed-less a b = ltZ (signed 64 a) (signed 64 b)
 
--- a signed comparison, writing 1 or 0 likewise
+-- a signed comparison, "writing 1 to rd if rs1 < rs2, 0 otherwise"
 abbrev pub signed-below : ℕ → ℕ → ℕ
 signed-below a b = cond (signed-less a b) 1 0
 

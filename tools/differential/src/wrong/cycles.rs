@@ -32,7 +32,7 @@ impl Cycle<'_> {
         !self.is_padding && self.row.raw & 0x7f == opcode
     }
 
-    /// Whether it was a signed comparison.
+    /// Whether it was a live cycle of an Alu row with funct3 2.
     fn is_slt(&self) -> bool {
         self.is(VirtualKind::Alu) && self.row.funct3 == 2
     }

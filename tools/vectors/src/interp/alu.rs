@@ -4,7 +4,7 @@ use super::{destination, pairs, straight, VALUES};
 use crate::asm::{auipc, lui, op, op32, op_imm, op_imm32};
 use crate::calllist::CallList;
 
-/// funct7 and funct3 of the register forms that the manual defines.
+/// funct7 and funct3 of the register forms that the manual defines, but for shifts.
 const REGISTER_FORMS: [(u32, u32); 7] = [(0, 0), (0x20, 0), (0, 2), (0, 3), (0, 4), (0, 6), (0, 7)];
 /// Others of the same opcode. Only 0x20 makes a difference to the reference, and
 /// only with funct3 0.

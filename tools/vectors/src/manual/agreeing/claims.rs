@@ -151,6 +151,17 @@ fn every_boundary_with_every_immediate() {
 }
 
 #[test]
+fn comparisons_give_0_and_1() {
+    for mnemonic in ["slt", "sltu", "slti", "sltiu"] {
+        let values = Told::answers(&of(mnemonic), |told| {
+            let result = told.results.first()?;
+            result.rsplit(' ').next().map(String::from)
+        });
+        assert_eq!(values, ["0", "1"].map(String::from).into(), "{mnemonic}");
+    }
+}
+
+#[test]
 fn amounts_of_shifts() {
     for (mnemonic, amounts) in [("slli", 64), ("srli", 64), ("srai", 32)] {
         let found = Told::answers(&of(mnemonic), |told| Some(told.word().imm() & 0x3f));

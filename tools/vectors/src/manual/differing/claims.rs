@@ -153,6 +153,6 @@ fn every_kind_of_undefined_encoding() {
     let wanted = wanted.chain(reserved.map(|funct3| (0x3b, funct3)));
     let wanted = wanted.chain([4, 5, 6, 7].map(|funct3| (0x23, funct3)));
     let wanted = wanted.chain([(0x63, 2), (0x63, 3), (0x67, 1), (0x67, 7)]);
-    let wanted = wanted.chain([(0x33, 0), (0x33, 1), (0x33, 5), (0x33, 6), (0x33, 7)]);
+    let wanted = wanted.chain([0, 1, 2, 5, 6, 7].map(|funct3| (0x33, funct3)));
     assert_eq!(found, wanted.collect());
 }

@@ -32,12 +32,16 @@ fn registers() -> Vec<Difference> {
     others.chain(comparisons()).collect()
 }
 
-/// funct3 2 of the 32-bit forms, with -1 in x1: it is below the immediate, which of
-/// the register form is 0, and not below x2.
-fn comparisons() -> [Difference; 2] {
+/// funct3 2, with -1 in x1 and -2 in x2: mulhsu compares x2 with x1, the 32-bit forms
+/// x1 with the immediate, which is 5 and, of the register form, 0.
+fn comparisons() -> [Difference; 3] {
     let before = [(1, u64::MAX), (2, u64::MAX - 1)];
-    [op_imm32(2, [2, 1], 5), op32(0, 2, [2, 1, 2])]
-        .map(|word| shown(Register(2), Undefined, &[word], &before, &[]))
+    let words = [
+        op(1, 2, [2, 2, 1]),
+        op_imm32(2, [2, 1], 5),
+        op32(0, 2, [2, 1, 2]),
+    ];
+    words.map(|word| shown(Register(2), Undefined, &[word], &before, &[]))
 }
 
 /// The load and the stores have 8 bytes.
