@@ -1,5 +1,5 @@
--- What the arms of the live cycle compute, in plain arithmetic on words, as interp.rs has it (01, "Cursor and live cycle").
--- A word is a number below 2^64. Assumes nothing: these are definitions.
+-- What the arms of the live cycle compute, in plain arithmetic on words, as interp.rs has it (01, "Cursor and live cycle") with T-01's
+-- comparison. A word is a number below 2^64. Assumes nothing: these are definitions.
 use Prim.Native.Nat.{ℕ, _+_, _-_, _*_, _/_, _%_, _^_, min}
 use mathlib.Core.Bool.{Bool, false, cond, not, _&&_}
 use lib.Dec.{eqb, ltb}

@@ -31,6 +31,7 @@ fn sub_flag(raw: u32) -> u64
     0
 }
 
+// Of funct3 2 the source sets WE alone; T-01 has the flags of 3.
 fn alu_flags(funct3: u32, raw: u32) -> u64
     ensures { λ r. ⌜ r ≡ aluFlags funct3 raw ⌝ }
 {

@@ -1,4 +1,4 @@
--- The flags of each arm are within bounds. Assumes nothing.
+-- The flags of ALU rows, loads and branches are within bounds. Assumes nothing.
 use mathlib.Core.Bool.{Bool, true, false, cond, _&&_}
 use Prim.Native.Nat.{ℕ, _<_}
 use native.Mathlib.Omega.{arith}
