@@ -109,7 +109,7 @@ unfolding last_image last
 cursors rows image [] h = refl
 cursors rows image (k ∷ ks) h =
     let l = left rows image k h in
-    cursors rows _ ks l.size ∙ ap (λ c. last rows c ks) l.stands
+    cursors rows (image_after (answer_of rows (cursor_of image) k) image) ks l.size ∙ ap (λ c. last rows c ks) l.stands
 
 logs : (rows image : List ℕ) (ks : List Call) → length image ≡ image_words
     → image_log rows image ks ≡ log rows (cursor_of image) ks
@@ -118,7 +118,7 @@ logs rows image [] h = refl
 logs rows image (k ∷ ks) h =
     let l = left rows image k h in
     let a = answer_of rows (cursor_of image) k in
-    ap (λ r. added k a ++ r) (logs rows _ ks l.size ∙ ap (λ c. log rows c ks) l.stands)
+    ap (λ r. added k a ++ r) (logs rows (image_after a image) ks l.size ∙ ap (λ c. log rows c ks) l.stands)
 
 -- ---- the whole
 
