@@ -3,15 +3,12 @@
 #![tactic(auto)]
 
 ghost use Rattle.std.specs.Prelude.{◌≡◌, length};
-ghost use Rattle.io.specs.Counts.{IsPrefixLen};
-ghost use Rattle.input.specs.Input.{outcome_of};
+ghost use Rattle.input.specs.Input.{IsPrefixLen, outcome_of};
 
 use std::env::{Env, FillError};
-use std::fs;
-use std::io;
-use std::io::{ErrorKind, Print, Read, Stderr};
+use std::io::{ErrorKind, Print, Read, Stderr, Write};
 use std::rt::Files;
-use std::str;
+use std::{fs, io, str};
 
 // How many bytes came, and why the read after them failed, if it did.
 #[derive(Clone, Copy)]
@@ -72,30 +69,34 @@ pub fn fill<R: Read>(reader: &mut R, buf: &mut [u8]) -> Filled
     }
 }
 
-// How long the reason is in an error's text: std puts the system's number behind it.
+// How long the reason is at the start of `text`, which ends at a 0. std puts the system's number
+// behind it, as in `Is a directory (os error 21)`.
 fn reason_length(text: &[u8]) -> usize
     ensures { IsPrefixLen result text.now }
 {
     for i in 0..text.len() {
-        if text[i..].starts_with(b" (os error ") {
+        if text[i] == 0 || text[i..].starts_with(b" (os error ") {
             return i;
         }
     }
     text.len()
 }
 
-fn tell(to: Stderr, what: &[u8], reason: &[u8]) -> io::Result<()> {
+fn write_failure(to: Stderr, what: &[u8], reason: &[u8]) -> io::Result<()> {
     to.write_all(what)?;
     to.write_all(b": ")?;
     to.write_all(reason)?;
     to.write_all(b"\n")
 }
 
-// Tells on standard error what failed, as the caller names it, and why. A write that fails there is
-// not told.
+// Tells on standard error what failed, as the caller names it, and why. There is no place to tell
+// that this fails.
 pub fn fail(to: Stderr, what: &[u8], why: io::Error) {
-    let mut text = io::Cursor::new([0u8; 128]);
-    let _ = write!(text, "{why}");
+    let mut text = [0u8; 128];
+    let mut rest: &mut [u8] = &mut text;
+    let _ = write!(rest, "{why}");
+    let n = reason_length(&text);
+    let _ = write_failure(to, what, &text[..n]);
 }
 
 // How many arguments there are, the program's name among them.
@@ -108,16 +109,47 @@ pub fn argument_count<R: Env>(rt: &R) -> usize {
     usize::MAX
 }
 
+// Why an argument did not come.
+fn not_taken(e: FillError) -> io::Error {
+    match e {
+        FillError::NotPresent => io::Error::new(ErrorKind::InvalidInput, "Invalid argument"),
+        FillError::TooLong => io::Error::new(ErrorKind::InvalidFilename, "File name too long"),
+    }
+}
+
+fn open_bytes<R: Files>(rt: &R, path: &[u8]) -> io::Result<R::File> {
+    match str::from_utf8(path) {
+        Ok(text) => fs::open(rt, text),
+        Err(_) => Err(io::Error::new(ErrorKind::InvalidFilename, "the name is not UTF-8")),
+    }
+}
+
 // Opens the file that argument `i` names, and puts its name into `path`. Why it cannot is told on
 // standard error.
-pub fn open_argument<R: Env + Files>(rt: &R, to: Stderr, i: usize, path: &mut [u8]) -> Opened<R::File>
+pub fn open_argument<R: Env + Files>(
+    rt: &R,
+    to: Stderr,
+    i: usize,
+    path: &mut [u8],
+) -> Opened<R::File>
     ensures { IsPrefixLen result.length path.new }
 {
-    match rt.arg(i, path) {
-        Ok(n) => Opened { file: open_named(rt, to, &path[..n]), length: n },
+    let n = match rt.arg(i, path) {
+        Ok(n) => n,
         Err(e) => {
             fail(to, b"argument", not_taken(e));
-            Opened { file: None, length: 0 }
+            return Opened {
+                file: None,
+                length: 0,
+            };
         }
-    }
+    };
+    let file = match open_bytes(rt, &path[..n]) {
+        Ok(file) => Some(file),
+        Err(why) => {
+            fail(to, &path[..n], why);
+            None
+        }
+    };
+    Opened { file, length: n }
 }
