@@ -1,5 +1,7 @@
 // Takes a list of calls apart, line by line. A line is a letter and then numbers in lower-case
 // hexadecimal digits, without leading zeros and with a single space before each.
+#![tactic(auto)]
+
 ghost use Rattle.std.specs.Prelude.{◌≡◌, ◌≤◌, length, drop};
 ghost use Rattle.calls.specs.Parse.{no_number, digits_from, spaced_number, bad_line, parsed, is_line, place_of};
 
@@ -12,7 +14,7 @@ pub const NUMBERS: usize = 17;
 
 // A letter and the numbers after it. A line of another form has the count 18, and letter 0 where it
 // is empty.
-#[derive(Drop)]
+#[derive(Clone, Copy)]
 pub struct Line {
     pub letter: u8,
     pub count: usize,
@@ -20,7 +22,7 @@ pub struct Line {
 }
 
 // What came next; the line, where it is one; and what is left of the text.
-#[derive(Drop)]
+#[derive(Clone, Copy)]
 pub struct Taken {
     pub next: Next,
     pub line: Line,
@@ -28,7 +30,7 @@ pub struct Taken {
 }
 
 // A number of a line, and the place after it; place 0 where there is none.
-#[derive(Drop)]
+#[derive(Clone, Copy)]
 struct Number {
     value: u64,
     after: usize,

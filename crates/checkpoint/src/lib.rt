@@ -1,4 +1,6 @@
 // Whether two cursors are the same checkpoint. "The same checkpoint" is a term of document 01, "Execute, sameness, program".
+#![tactic(auto)]
+
 ghost use Rattle.std.specs.Prelude.{◌≡◌, length, drop};
 ghost use Rattle.checkpoint.specs.Checkpoint.{agree, same_of};
 ghost use Rattle.checkpoint.specs.Claims.{Exact};

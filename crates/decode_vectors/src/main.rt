@@ -1,12 +1,14 @@
 // Compares lists of listing lines with the lines that the decoder gives for their words. The
 // arguments name the lists. It says which lines are wrong (lines count from 1, columns from 0), and
 // ends each list with a line of totals.
+#![tactic(auto)]
+
 use libc::STDERR_FILENO;
 use listing::{Judged, Tally};
 use report::{say, say_differs, say_line, say_tally, wrong_line};
 
 // The tally after the next line of a list; or there is none, or a read failed.
-#[derive(Drop)]
+#[derive(Clone, Copy)]
 enum Next {
     Line(Tally),
     End,

@@ -1,5 +1,7 @@
 // What the programs that run calls and compare have in common: cursors, their cells, and words about
 // what was compared.
+#![tactic(auto)]
+
 ghost use Rattle.std.specs.Prelude.{◌≡◌, get_or, take, []};
 ghost use Rattle.interp.specs.Values.{bool_word};
 ghost use Rattle.interp.specs.Machine.{start_of};

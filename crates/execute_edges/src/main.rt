@@ -1,6 +1,8 @@
 // Runs execute and the sameness call at their limits. A line has the number and the counts that
 // execute returned and what was compared, with WRONG in front of what differs. A right buffer holds
 // the records and past them what it held before.
+#![tactic(auto)]
+
 mod compare;
 mod sameness;
 

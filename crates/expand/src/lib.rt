@@ -1,5 +1,7 @@
 // Microcode expansion, a port of magnetar-cpu's expand.rs: each instruction word becomes a row of the ROM, and a register
 // shift six, one for each static shift by a power of two. A row is a word, raw + 2^32 * stage.
+#![tactic(auto)]
+
 ghost use Rattle.std.specs.Prelude.{◌≡◌, ◌+◌, ◌%◌, ◌^◌, ◌≤◌, ◌<◌, ◌++◌, length, take, drop};
 ghost use Rattle.expand.specs.Rows.{is_reg_shift, alu_row, stage_rd, stage_row, op_row, load_row, store_row, branch_row, upper_row, jump_row, system_row, row_of_inst, row_of};
 ghost use Rattle.expand.specs.Expand.{rows_of, expansion_of, starts_of, start_at, expand_refusal_number, expand_told_of, expand_answer_of, rows_after, starts_after, is_expansion};
@@ -18,15 +20,15 @@ pub const SHIFT_STAGES: usize = 6;
 pub const MAX_PROGRAM_WORDS: usize = 1048576;
 
 // A row position: the source's micro-PC.
-#[derive(Drop)]
+#[derive(Clone, Copy)]
 pub struct MicroPc(pub usize);
 
 // A program position: the source's index of an instruction.
-#[derive(Drop)]
+#[derive(Clone, Copy)]
 pub struct InstPos(pub usize);
 
 // The kind of a row.
-#[derive(Drop)]
+#[derive(Clone, Copy)]
 pub enum VirtualKind {
     // A full ALU operation, register or immediate form.
     Alu,
@@ -44,7 +46,7 @@ pub enum VirtualKind {
 }
 
 // A row of the ROM, taken apart.
-#[derive(Drop)]
+#[derive(Clone, Copy)]
 pub struct RomRow {
     pub kind: VirtualKind,
     pub rd: usize,
@@ -58,7 +60,7 @@ pub struct RomRow {
 }
 
 // Why a program is not expanded.
-#[derive(Drop)]
+#[derive(Clone, Copy)]
 pub enum Refusal {
     // 1: the program has no words, so it has no rows.
     NoRows,
@@ -82,14 +84,14 @@ impl Refusal {
 }
 
 // The answer of `expand_program`: the count of rows, or a refusal.
-#[derive(Drop)]
+#[derive(Clone, Copy)]
 pub enum Expanded {
     Rows(usize),
     Refused(Refusal),
 }
 
 // Where an instruction's rows start, or that the program has no such instruction.
-#[derive(Drop)]
+#[derive(Clone, Copy)]
 pub enum Start {
     At(MicroPc),
     Past,

@@ -1,5 +1,7 @@
 // Runs the expander at its limits. Each place of a buffer holds a guard word before a call; what the
 // places hold afterwards is compared with what is expected, and what is seen is said.
+#![tactic(auto)]
+
 ghost use Rattle.std.specs.Prelude.{◌≤◌, length};
 
 use expand::{Expanded, InstPos, Start};

@@ -2,6 +2,8 @@
 // arguments name the lists. A list has for each program a line with its counts, and then a line for
 // each of its rows. It says which lines are wrong (lines count from 1, columns from 0), and ends each
 // list with a line of totals.
+#![tactic(auto)]
+
 ghost use Rattle.std.specs.Prelude.{◌+◌, ◌≤◌, length};
 
 use expand::{Expanded, InstPos, Start};
@@ -23,7 +25,7 @@ const MAX_EXPANSION: usize = 8190;
 const GUARD: u64 = u64::MAX;
 
 // The tally after the next program of a list; the last one, where the list ends; or a read failed.
-#[derive(Drop)]
+#[derive(Clone, Copy)]
 enum Next {
     Program(Tally),
     Last(Tally),
@@ -31,7 +33,7 @@ enum Next {
 }
 
 // The words that were found, and the tally after the rows that they were looked for in.
-#[derive(Drop)]
+#[derive(Clone, Copy)]
 struct Words {
     count: usize,
     tally: Tally,

@@ -1,7 +1,7 @@
 -- One cycle (01, "Cursor and live cycle" and "Padding cycle"). An arm says what a row of its kind does, as an `Effect`; the
 -- record and the next cursor are made of it in one place, so that no arm can record one thing and do another. `a` and `b`
 -- are registers rs1 and rs2 of the row, as in 01. Assumes nothing: these are definitions.
-use Rattle.std.specs.Prelude.{ℕ, suc, ◌+◌, ◌/◌, ◌%◌, Bool, true, false, cond, ◌&&◌, ◌||◌, List, length, set, ◌==◌, slice_set}
+use Rattle.std.specs.Prelude.{ℕ, suc, ◌+◌, ◌/◌, ◌%◌, Bool, true, false, cond, ◌&&◌, ◌||◌, List, length, ◌==◌, slice_set}
 use Rattle.expand.specs.declared.MicroPc.{MicroPc}
 use Rattle.expand.specs.declared.RomRow.{RomRow}
 use Rattle.expand.specs.declared.VirtualKind.{VirtualKind}

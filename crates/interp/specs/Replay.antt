@@ -1,6 +1,6 @@
 -- The replay of a log: it is fed the input, the rows and the log's words, and knows nothing of the machine (01, "Joined log
 -- and replay"). Assumes nothing: these are definitions.
-use Rattle.std.specs.Prelude.{ℕ, zero, suc, ◌/◌, ◌%◌, Bool, true, cond, ◌&&◌, List, [], ◌∷◌, length, take, drop, set, replicate, ◌==◌, nat_lt, slice_index, slice_set}
+use Rattle.std.specs.Prelude.{ℕ, zero, suc, ◌/◌, ◌%◌, Bool, true, cond, ◌&&◌, List, [], ◌∷◌, length, take, drop, replicate, ◌==◌, nat_lt, slice_index, slice_set}
 use Rattle.interp.specs.Machine.{row_at, loaded}
 
 -- the replay's state, and whether every "must" so far held

@@ -13,7 +13,7 @@ use crate::{Cursor, CycleRecord};
 use expand::{MicroPc, RomRow, VirtualKind};
 
 // The numbers of a cursor. The loops take them by value and the arrays lent, so that no cycle copies a cursor.
-#[derive(Drop)]
+#[derive(Clone, Copy)]
 pub(crate) struct Core {
     pub(crate) micro_pc: MicroPc,
     pub(crate) cycles: u64,

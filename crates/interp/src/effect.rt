@@ -6,7 +6,7 @@ use crate::Cursor;
 use expand::MicroPc;
 
 // The register cell that a cycle writes.
-#[derive(Drop)]
+#[derive(Clone, Copy)]
 pub(crate) struct Write {
     pub(crate) rd: usize,
     pub(crate) rd_val: u64,
@@ -14,7 +14,7 @@ pub(crate) struct Write {
 }
 
 // The RAM word that a cycle shows, and what it stores there.
-#[derive(Drop)]
+#[derive(Clone, Copy)]
 pub(crate) struct Access {
     pub(crate) ram_addr: usize,
     pub(crate) ram_old: u64,
@@ -25,7 +25,7 @@ pub(crate) struct Access {
 }
 
 // What a cycle only shows.
-#[derive(Drop)]
+#[derive(Clone, Copy)]
 pub(crate) struct Shown {
     pub(crate) alu_a: u64,
     pub(crate) alu_b: u64,
@@ -35,14 +35,14 @@ pub(crate) struct Shown {
 }
 
 // The accumulator of the shift stages after a cycle.
-#[derive(Drop)]
+#[derive(Clone, Copy)]
 pub(crate) enum Scratch {
     Kept,
     Holds(u64),
 }
 
 // What an arm says that its row does.
-#[derive(Drop)]
+#[derive(Clone, Copy)]
 pub(crate) struct Effect {
     pub(crate) write: Write,
     pub(crate) access: Access,

@@ -1,5 +1,7 @@
 // The interpreter, a port of magnetar-cpu's interp.rs: it runs the rows of an expanded program and writes one record of 17
 // words for each cycle into a lent buffer. A cycle is an arm, which says what its row does, and then `commit`, which does it.
+#![tactic(auto)]
+
 mod arms;
 mod calls;
 mod cycle;
@@ -38,7 +40,7 @@ pub const MAX_EXECUTE_CYCLES: u64 = 0x1_0000_0000;
 pub const RECORD_WORDS: usize = 17;
 
 // The machine between two calls: the source's StreamCursor and ExecState in one.
-#[derive(Drop)]
+#[derive(Clone, Copy)]
 pub struct Cursor {
     // x0 to x31; cell 0 holds the accumulator of a shift, cell 32 what is written to x0.
     pub regs: [Word; Cursor::REGS],
@@ -80,7 +82,7 @@ impl Cursor {
 }
 
 // The record of a cycle. The source's twelve bools are one number, the sum of their bits.
-#[derive(Drop)]
+#[derive(Clone, Copy)]
 pub struct CycleRecord {
     pub micro_pc: MicroPc,
     pub rs1_val: Word,
@@ -130,7 +132,7 @@ impl CycleRecord {
 }
 
 // Why a call is refused.
-#[derive(Drop)]
+#[derive(Clone, Copy)]
 pub enum Refusal {
     // 1: there are no rows.
     NoRows,
@@ -162,14 +164,14 @@ impl Refusal {
     }
 }
 
-#[derive(Drop)]
+#[derive(Clone, Copy)]
 pub enum Outcome {
     Accepted,
     Refused(Refusal),
 }
 
 // The answer of a call: an enum cannot hold the cursor's arrays, so it stands beside.
-#[derive(Drop)]
+#[derive(Clone, Copy)]
 pub struct Answer {
     pub outcome: Outcome,
     pub cursor: Cursor,
@@ -177,7 +179,7 @@ pub struct Answer {
 
 // The answer of execute: how many cycles were live, how many records there are, and the cursor after padding. If it is
 // refused, both counts are 0 and the cursor is the blank one.
-#[derive(Drop)]
+#[derive(Clone, Copy)]
 pub struct Execution {
     pub outcome: Outcome,
     pub live_count: u64,

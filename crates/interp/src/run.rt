@@ -12,7 +12,7 @@ use crate::{Cursor, Execution, Outcome, RECORD_WORDS};
 use expand::{MicroPc, RomRow};
 
 // How many records are due.
-#[derive(Drop)]
+#[derive(Clone, Copy)]
 pub(crate) enum Due {
     // As many as the call was asked for.
     Exactly(usize),
@@ -21,7 +21,7 @@ pub(crate) enum Due {
 }
 
 // Where the live cycles of a call ended: the numbers of the cursor, how many live cycles there were, and the row at next_fetch.
-#[derive(Drop)]
+#[derive(Clone, Copy)]
 struct Stopped {
     core: Core,
     count: usize,

@@ -13,7 +13,7 @@ pub(crate) type Places = [u64; PLACES];
 
 pub(crate) type Record = [u64; 17];
 
-#[derive(Drop)]
+#[derive(Clone, Copy)]
 pub(crate) enum Kind {
     Segment,
     Padding,

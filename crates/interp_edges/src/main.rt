@@ -1,6 +1,8 @@
 // Runs the segment call and the padding call at their limits, and document 01's cases that are easily
 // mistaken. A line has the number that a call returned and what was compared, with WRONG in front of
 // what differs. A right buffer holds the records and past them what it held before.
+#![tactic(auto)]
+
 mod compare;
 
 ghost use Rattle.std.specs.Prelude.{◌≤◌};

@@ -14,6 +14,8 @@
 // It says what is wrong in which line (lines count from 1), and ends each file with a line of totals.
 // A list of which a line has another form, or a call another code, is given up: its other lines are
 // passed over.
+#![tactic(auto)]
+
 mod cells;
 mod state;
 
@@ -53,13 +55,13 @@ type Rows = [u64; MAX_CASE_ROWS];
 type Records = [u64; PLACES];
 
 // The cursor that was returned, and the cells that it is to have.
-#[derive(Drop)]
+#[derive(Clone, Copy)]
 struct Machine {
     cursor: Cursor,
     want: Cells,
 }
 
-#[derive(Drop)]
+#[derive(Clone, Copy)]
 struct Run {
     state: State,
     machine: Machine,

@@ -2,7 +2,7 @@
 use report::{Counts, one_more, say, say_both, say_count, say_counts, say_place};
 
 // What the next line is to be.
-#[derive(Drop)]
+#[derive(Clone, Copy)]
 pub enum Phase {
     // A list: nothing stands before the first.
     First,
@@ -23,7 +23,7 @@ pub enum Phase {
 }
 
 // The sizes of the list and of the call, and the counts that the totals give.
-#[derive(Drop)]
+#[derive(Clone, Copy)]
 pub struct State {
     pub phase: Phase,
     pub words: u64,

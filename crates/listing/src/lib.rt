@@ -7,6 +7,8 @@
 // the word in hex from 0, the class from 9, rd, rs1 and rs2 in decimal from 17, 20 and 23, funct3
 // at 26, funct7 in hex from 28 and the immediate in hex from 31. The module `rows` has the line of
 // a ROM row.
+#![tactic(auto)]
+
 mod rows;
 
 ghost use Rattle.std.specs.Prelude.{◌≡◌, ◌+◌, ◌%◌, ◌^◌, ◌<◌, ◌≤◌};
@@ -17,21 +19,21 @@ use decode::Opcode;
 pub use rows::{Head, Program, compare_row, head_of, program_counts, row_line_of};
 
 // What the digits at some places of a line give.
-#[derive(Drop)]
+#[derive(Clone, Copy)]
 enum Parsed {
     Number(u32),
     Bad,
 }
 
 // How many characters were compared, where none differs; else the first place that differs.
-#[derive(Drop)]
+#[derive(Clone, Copy)]
 pub enum Compared {
     Same(usize),
     Differs(usize),
 }
 
 // What a line with a stored answer comes to. Where it differs: the place, and the word of the line.
-#[derive(Drop)]
+#[derive(Clone, Copy)]
 pub enum Judged {
     NoLine,
     Same(usize),
@@ -39,7 +41,7 @@ pub enum Judged {
 }
 
 // The lines of a list, the characters compared in those that are the same, and the wrong lines.
-#[derive(Drop)]
+#[derive(Clone, Copy)]
 pub struct Tally {
     pub lines: u64,
     pub characters: u64,

@@ -14,7 +14,7 @@ use crate::{Compared, Parsed, compare, number_at, parsed_word, put_digits, put_f
 use expand::VirtualKind;
 
 // What a row line says of its instruction: the word of it, where the row is its first.
-#[derive(Drop)]
+#[derive(Clone, Copy)]
 pub enum Head {
     First(u32),
     Later,
@@ -22,7 +22,7 @@ pub enum Head {
 }
 
 // The counts of words and of rows that a program line gives.
-#[derive(Drop)]
+#[derive(Clone, Copy)]
 pub enum Program {
     Counts(u32, u32),
     NoLine,

@@ -1,6 +1,8 @@
 // The C interface over plain words. A slice is a pointer and a length, an array a pointer: not null and aligned, also
 // where the length is 0; what a call writes overlaps nothing else lent to it. Where a call can be refused, 0 is accepted and any other
 // number a refusal of document 01's table, after which nothing behind any pointer has changed.
+#![tactic(auto)]
+
 ghost use Rattle.std.specs.Prelude.{◌≡◌, ◌+◌, ◌≤◌, length, drop};
 ghost use Rattle.std.proofs.Math.Seq.{paste};
 ghost use Rattle.expand.specs.Expand.{expand_answer_of, rows_after, starts_after, is_expansion};

@@ -29,7 +29,7 @@ type Rows = [u64; MAX_CASE_ROWS];
 type Records = [u64; MAX_RECORD_WORDS];
 
 // `taken` is whether the program's last word, a branch, was taken, and NO_BRANCH where it is none.
-#[derive(Drop)]
+#[derive(Clone, Copy)]
 pub struct Machine {
     pub cells: Cells,
     pub taken: u64,

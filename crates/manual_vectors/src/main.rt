@@ -25,6 +25,8 @@
 // what is wrong in which line (lines count from 1), and ends each file with a line of totals. What a
 // case `a` leaves is compared at its last line. A case of which a line has another form is given up:
 // its other lines are passed over.
+#![tactic(auto)]
+
 mod machine;
 mod state;
 
@@ -46,7 +48,7 @@ use text_lines::{Next, Text, Unread};
 const AFTER: usize = 1000;
 
 // A case: its program, the machine before it, and what is expected after it.
-#[derive(Drop)]
+#[derive(Clone, Copy)]
 struct Run {
     state: State,
     program: Program,
@@ -56,7 +58,7 @@ struct Run {
 
 // What a result says: a place, CELLS where the line has another form, and its value after the run,
 // by the reference and by the manual.
-#[derive(Drop)]
+#[derive(Clone, Copy)]
 struct Said {
     place: usize,
     value: u64,

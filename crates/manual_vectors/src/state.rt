@@ -2,7 +2,7 @@
 use report::{Counts, one_more, say, say_count, say_counts};
 
 // What the next line is to be.
-#[derive(Drop)]
+#[derive(Clone, Copy)]
 pub enum Phase {
     // A case: nothing stands before the first.
     First,
@@ -19,7 +19,7 @@ pub enum Phase {
 }
 
 // The head of the case, whose cycles are 0 to `last`, and the counts that the totals give.
-#[derive(Drop)]
+#[derive(Clone, Copy)]
 pub struct State {
     pub phase: Phase,
     pub letter: u8,

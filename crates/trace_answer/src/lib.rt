@@ -1,5 +1,7 @@
 // What the program trace answers to its input. The input is little-endian u32s: max_cycles, k, k input words of two u32s
 // each, low half first, and the program. The answer is a text of the crate lines.
+#![tactic(auto)]
+
 ghost use Rattle.std.specs.Prelude.{◌≡◌, ◌+◌, ◌*◌, ◌≤◌, ◌++◌, length, drop};
 ghost use Rattle.expand.specs.Expand.{expansion_of};
 ghost use Rattle.lines.specs.Lines.{written};

@@ -6,6 +6,8 @@
 // It says what is wrong in which line (lines count from 1, columns from 0), and ends each file with
 // a line of totals. A case of which a line has another form is given up: its other lines are passed
 // over.
+#![tactic(auto)]
+
 mod state;
 
 ghost use Rattle.std.specs.Prelude.{◌≤◌, length};

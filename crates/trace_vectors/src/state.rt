@@ -4,7 +4,7 @@ use report::{one_more, say, say_count, say_place};
 // The length of the made text, and the place in it where the next line begins; whether the case is
 // given up; the number of the last line; and the counts that the totals give. Characters are those of
 // the lines that are the same.
-#[derive(Drop)]
+#[derive(Clone, Copy)]
 pub struct State {
     pub made: usize,
     pub at: usize,

@@ -1,0 +1,20 @@
+-- `interp::padding_cycle` meets its contract. Assumes nothing.
+use Rattle.std.proofs.Common.{suc, ◌∙◌, arith}
+use Rattle.interp.specs.Cycle.{frozen_at}
+use Rattle.interp.proofs.arms.Lawful.{padding_lawful}
+use Rattle.interp.proofs.cycle.padding_cycle.Goals as goal
+
+pub put_effect-requires : goal.put_effect-requires
+put_effect-requires c =
+    let start = c in
+    let a = start.args in
+    let at = a.core.next_fetch in
+    let sound = (padding_lawful a.row at (suc at.0) a.regs.now start.requires.0.rd (omega arith) a.core.output).sound in
+    (start.requires.0, (rw c.padding_arm-e.ensures sound, start.requires.1))
+
+pub returns : goal.returns
+unfolding frozen_at
+returns c = let done = c.put_effect.ensures in let e = c.padding_arm-e.ensures in record {
+  ram_after = simp (done.regs_after, done.ram_after, e);
+  out_after = done.out_after ∙ simp e;
+}

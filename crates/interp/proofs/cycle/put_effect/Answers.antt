@@ -1,0 +1,17 @@
+-- `interp::put_effect` meets its contract. Assumes nothing.
+use Rattle.std.proofs.Common.{refl, ap, ◌∙◌}
+use Rattle.interp.specs.Machine.{words}
+use Rattle.interp.specs.Cycle.{record_of, regs_after}
+use Rattle.interp.proofs.cycle.put_effect.Goals as goal
+
+pub put-requires : goal.put-requires
+unfolding record_of
+put-requires c = let start = c in (start.requires.1.1, simp c.record_of-record.ensures start.requires.1.0.flags)
+
+pub returns : goal.returns
+unfolding regs_after
+returns c = record {
+  regs_after = refl;
+  ram_after = c.store.ensures;
+  out_after = c.put.ensures ∙ ap words c.record_of-record.ensures;
+}

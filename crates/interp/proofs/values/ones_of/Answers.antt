@@ -1,0 +1,19 @@
+use Rattle.std.proofs.Common.{ne_eqb}
+use Rattle.interp.specs.Values.{store_width}
+use Rattle.interp.proofs.values.ones_of.Goals as goal
+
+pub returns-in-0 : goal.returns-in-0
+unfolding store_width
+returns-in-0 c = rw c.in-0.is
+
+pub returns-in-1 : goal.returns-in-1
+unfolding store_width
+returns-in-1 c = rw c.in-1.is
+
+pub returns-in-2 : goal.returns-in-2
+unfolding store_width
+returns-in-2 c = rw c.in-2.is
+
+pub returns-in_default : goal.returns-in_default
+unfolding store_width
+returns-in_default c = simp (ne_eqb _ _ c.in_default.in_default-own.rest.0.0.1, ne_eqb _ _ c.in_default.in_default-own.rest.0.1, ne_eqb _ _ c.in_default.in_default-own.rest.1)
