@@ -5,8 +5,7 @@ use Rattle.rv64i.specs.Agreement.{Agreement}
 use Rattle.rv64i.proofs.OneRow as one_row
 use Rattle.rv64i.proofs.SixRows.{shifting, shifts-agree}
 use Rattle.rv64i.proofs.Reached.{premises}
-use Rattle.rv64i.proofs.agreement.Statement.{statement}
-use Rattle.rv64i.proofs.agreement.Tie as tie
+use Rattle.rv64i.proofs.agreement.Goals as goal
 
 agreement : Agreement
 agreement =
@@ -22,5 +21,5 @@ agreement =
       premises = premises;
     }
 
-pub agreement-spec : {M : Type 1} → statement M
-agreement-spec = tie.close (tie.spec (λ c. agreement))
+pub returns : goal.returns
+returns c = agreement

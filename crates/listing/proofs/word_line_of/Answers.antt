@@ -1,0 +1,11 @@
+use Rattle.std.proofs.Common.{ap, ◌∙◌}
+use Rattle.listing.specs.Lines.{line_of_inst}
+use Rattle.listing.proofs.Laws.{line_made}
+use Rattle.listing.proofs.word_line_of.Goals as goal
+
+pub returns : goal.returns
+returns c =
+    let f = c in
+    let b = f in
+    let d = b.decode-d in
+    line_made d.result b.blank_of-line.ensures f.put_fields.ensures c.put_digits.ensures ∙ ap line_of_inst d.ensures
