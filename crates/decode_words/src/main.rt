@@ -1,59 +1,56 @@
 // Writes the listing line of each word of standard input, whose bytes come lowest first.
+#![tactic(auto)]
+
 ghost use Rattle.std.specs.Prelude.{◌<◌, ◌^◌};
 
-use libc::{STDERR_FILENO, STDIN_FILENO, STDOUT_FILENO};
+use std::io;
+use std::io::{Print, Stderr, Stdin, Stdout};
 
 // It takes an array, so that no caller has to prove its length.
-fn write_line(line: &[u8; 48]) -> bool {
-    io::write_all(STDOUT_FILENO, line)
+fn write_line(out: Stdout, line: &[u8; 48]) -> io::Result<()> {
+    out.write_all(line)
 }
 
-// Writes the lines of the whole words of `bytes`, and answers whether all were written.
-fn write_lines(bytes: &[u8]) -> bool {
+// Writes the lines of the whole words of `bytes`, or fails where one cannot be written.
+fn write_lines(out: Stdout, bytes: &[u8]) -> io::Result<()> {
     let mut at = 0;
     while bytes.len() - at >= 4 {
         let raw = listing::word_le(bytes[at], bytes[at + 1], bytes[at + 2], bytes[at + 3]);
         let line = listing::word_line_of(raw);
-        if !write_line(&line) {
-            return false;
-        }
+        write_line(out, &line)?;
         at += 4;
     }
-    true
+    Ok(())
 }
 
 // Says so where the input ends `left` bytes into a word.
-fn tell_end(left: usize, words: u64) {
+fn tell_end(err: Stderr, left: usize, words: u64) -> io::Result<()> {
     if left == 0 {
-        return;
+        return Ok(());
     }
-    io::write_all(STDERR_FILENO, b"input ends inside a word: ");
-    io::print_decimal(STDERR_FILENO, left as u64);
-    io::write_all(STDERR_FILENO, b" bytes after ");
-    io::print_decimal(STDERR_FILENO, words);
-    io::write_all(STDERR_FILENO, b" words\n");
+    println!(err; "input ends inside a word: {left} bytes after {words} words")
 }
 
 // Lists the next 1,024 words, after `words` of them, and answers whether to go on.
-fn list_part(words: u64) -> bool
+fn list_part(reader: &mut Stdin, out: Stdout, err: Stderr, words: u64) -> bool
     requires { words < 2 ^ 60 }
 {
-    let mut part = io::buffer();
-    let got = input::fill(STDIN_FILENO, &mut part);
-    // Told at once: a later call may change the reason that `fail` gives.
-    if got.failed {
-        os::fail(b"standard input");
+    let mut part = [0u8; 4096];
+    let got = input::fill(reader, &mut part);
+    if let Some(why) = got.failed {
+        input::fail(err, b"standard input", why);
     }
     let n = got.count;
-    if !write_lines(&part[..n]) {
-        os::fail(b"standard output");
+    if let Err(why) = write_lines(out, &part[..n]) {
+        input::fail(err, b"standard output", why);
         return false;
     }
-    if got.failed {
+    if got.failed.is_some() {
         return false;
     }
     if n < part.len() {
-        tell_end(n % 4, words + n as u64 / 4);
+        // There is no place to tell that this fails.
+        let _ = tell_end(err, n % 4, words + n as u64 / 4);
         return false;
     }
     true
@@ -61,9 +58,10 @@ fn list_part(words: u64) -> bool
 
 // A proved loop has to end, and nothing says that the input does: the bound is one that no run
 // reaches.
-fn main() {
+fn main(rt: HostRuntime) {
+    let mut reader = rt.stdin();
     let mut words: u64 = 0;
-    while words < 1 << 60 && list_part(words) {
+    while words < 1 << 60 && list_part(&mut reader, rt.stdout(), rt.stderr(), words) {
         words += 1024;
     }
 }

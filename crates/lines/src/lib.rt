@@ -5,6 +5,8 @@
 //     1,5,0,5,0,32,0,0,0,0,0,1,5,0,5,0,134217728
 //
 // a line live,records,output and a line of 17 words for each record; or the line refused,number.
+#![tactic(auto)]
+
 ghost use Rattle.std.specs.Prelude.{◌≡◌, ◌+◌, ◌*◌, ◌≤◌, ◌<◌, min, length};
 ghost use Rattle.std.proofs.lemmas.List.Edits.{sets};
 ghost use Rattle.lines.specs.Lines.{decimal, number_text, line_of, lines_of, answer_text, refused_text, written};

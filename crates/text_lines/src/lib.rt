@@ -1,21 +1,25 @@
 // Takes a text file line by line. It is read in parts; a read that fails is not taken for its end.
+#![tactic(auto)]
+
 ghost use Rattle.std.specs.Prelude.{◌≡◌, ◌≤◌, ◌<◌, length};
 
 use input::Filled;
+use std::io;
+use std::io::Read;
 
 // The part of a file that was read last. It is passed as an array, so that no caller has to prove its
 // length.
 pub type Text = [u8; 65536];
 
 // The bytes of a text that are not taken yet, from `at` up to `end`.
-#[derive(Drop)]
+#[derive(Clone, Copy)]
 pub struct Unread {
     pub at: usize,
     pub end: usize,
 }
 
 // What comes next in a file.
-#[derive(Drop)]
+#[derive(Clone, Copy)]
 pub enum Next {
     Line,
     End,
@@ -23,13 +27,13 @@ pub enum Next {
     Cut,
     // A line longer than the text.
     Long,
-    // A read failed.
-    Failed,
+    // A read failed, and why.
+    Failed(io::Error),
 }
 
 // What came next; where it is a line, the places of its first byte and of its line feed, else twice
 // the same; and what is left of the text.
-#[derive(Drop)]
+#[derive(Clone, Copy)]
 pub struct Taken {
     pub next: Next,
     pub start: usize,
@@ -77,13 +81,13 @@ fn to_front(text: &mut [u8], at: usize, end: usize)
 }
 
 // Moves what is left to the front and reads on behind it. Answers how many bytes there are then.
-fn refill(fd: i32, text: &mut [u8], at: usize, end: usize) -> Filled
+fn refill<R: Read>(reader: &mut R, text: &mut [u8], at: usize, end: usize) -> Filled
     requires { (at ≤ end) × (end ≤ length text.old) }
     ensures { result.count ≤ length text.old }
 {
     to_front(text, at, end);
     let kept = end - at;
-    let got = input::fill(fd, &mut text[kept..]);
+    let got = input::fill(reader, &mut text[kept..]);
     Filled {
         count: kept + got.count,
         failed: got.failed,
@@ -148,7 +152,7 @@ fn within(unread: Unread) -> Unread
 }
 
 // Takes the next line of a file. It lies in `text` until the next call.
-pub fn take_text(fd: i32, text: &mut Text, unread: Unread) -> Taken
+pub fn take_text<R: Read>(reader: &mut R, text: &mut Text, unread: Unread) -> Taken
     ensures start_le_stop { (result.start ≤ result.stop) × (result.stop < 65536) }
     ensures at_le_end { (result.unread.at ≤ result.unread.end) × (result.unread.end ≤ 65536) }
 {
@@ -159,9 +163,9 @@ pub fn take_text(fd: i32, text: &mut Text, unread: Unread) -> Taken
     if stop < end {
         return line_taken(at, stop, end);
     }
-    let got = refill(fd, text, at, end);
-    if got.failed {
-        return no_line(Next::Failed);
+    let got = refill(reader, text, at, end);
+    if let Some(why) = got.failed {
+        return no_line(Next::Failed(why));
     }
     take_first(text, got.count)
 }
