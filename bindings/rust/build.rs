@@ -6,7 +6,7 @@ use std::path::{Path, PathBuf};
 const VARIABLE: &str = "MAGNETAR_LIB";
 const DEFAULT: &str = "../../target/staticlib";
 const FILE: &str = "libmagnetar_cpu.a";
-const MAKER: &str = "rt staticlib magnetar_cpu";
+const MAKER: &str = "tools/build magnetar_cpu";
 
 /// A missing library is no error here: `cargo doc` and `cargo check` do without
 /// it, and of a build that needs it rustc says that it is not there.

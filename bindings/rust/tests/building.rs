@@ -78,7 +78,7 @@ fn a_missing_library() {
     let missing = "the static library is missing: no libmagnetar_cpu.a in ";
     for part in [
         missing,
-        "`rt staticlib magnetar_cpu` in the repository makes it",
+        "`tools/build magnetar_cpu` in the repository makes it",
         "MAGNETAR_LIB can name the directory",
         "could not find native static library",
     ] {

@@ -84,7 +84,7 @@ fn complaint(program: &str, source: &str) -> String {
 fn the_script_says_what_is_missing() {
     let text = complaint("/no/such/program", "/");
     assert!(text.contains("/no/such/program"), "{text}");
-    assert!(text.contains("run rt check trace first"), "{text}");
+    assert!(text.contains("run tools/build trace first"), "{text}");
     let text = complaint(STAND_IN, "/no/such/source");
     assert!(
         text.contains("the Rust source of magnetar-cpu is not in /no/such/source"),
