@@ -2,7 +2,8 @@
 // name.
 #![tactic(auto)]
 
-ghost use Rattle.std.specs.Prelude.{◌≡◌, length};
+ghost use Rattle.std.specs.Prelude.{◌≡◌, ◌<◌, IsNone, length, take};
+ghost use Rattle.std.specs.Io.KnownBytes.{Consumes, IsAtEnd};
 ghost use Rattle.input.specs.Input.{IsPrefixLen, outcome_of};
 
 use std::env::{Env, FillError};
@@ -42,15 +43,20 @@ fn outcome(got: io::Result<usize>, buf: &[u8]) -> Filled
 }
 
 fn read_once<R: Read>(reader: &mut R, buf: &mut [u8]) -> Filled
-    ensures { IsPrefixLen result.count buf.new }
+    ensures prefix_len { IsPrefixLen result.count buf.new }
+    ensures bytes { Consumes (R.remaining reader.old) (R.remaining reader.new) (take result.count buf.new) }
+    ensures end { IsNone result.failed → result.count ≡ 0 → 0 < length buf.new → IsAtEnd (R.remaining reader.new) }
 {
     let got = reader.read(buf);
     outcome(got, buf)
 }
 
-// Reads until `buf` is full, the input ends or a read fails.
+// Reads until `buf` is full, the input ends or a read fails. Of a reader whose bytes are known, these
+// stand in `buf`, and fewer than it holds come only at the end or where a read failed.
 pub fn fill<R: Read>(reader: &mut R, buf: &mut [u8]) -> Filled
-    ensures { IsPrefixLen result.count buf.new }
+    ensures prefix_len { IsPrefixLen result.count buf.new }
+    ensures bytes { Consumes (R.remaining reader.old) (R.remaining reader.new) (take result.count buf.new) }
+    ensures end { IsNone result.failed → result.count < length buf.new → IsAtEnd (R.remaining reader.new) }
 {
     let mut have = 0;
     while have < buf.len() {
