@@ -7,9 +7,12 @@
 ghost use Rattle.std.specs.Prelude.{◌+◌, ◌≤◌, length};
 
 use expand::{Expanded, InstPos, Start};
-use libc::STDERR_FILENO;
 use listing::{Compared, Head, Program, Tally};
-use report::{say, say_differs, say_line, say_number, say_place, say_tally, wrong_line};
+use report::{Console, say, say_differs, say_line, say_number, say_place, say_tally, wrong_line};
+use std::env::Env;
+use std::fs::File;
+use std::io::Print;
+use std::rt::Files;
 
 // The row lines of a program, in its first bytes. It is passed as an array, so that no caller has to
 // prove its length.
@@ -39,16 +42,17 @@ struct Words {
     tally: Tally,
 }
 
-fn say_total(name: &[u8], programs: u64, tally: Tally) {
-    say(name);
-    say(b": ");
-    say_number(programs);
-    say(b" programs, ");
-    say_tally(tally);
+fn say_total(to: Console, name: &[u8], programs: u64, tally: Tally) {
+    say(to, name);
+    say(to, b": ");
+    say_number(to, programs);
+    say(to, b" programs, ");
+    say_tally(to, tally);
 }
 
 // Says that a count of a program line is not right, and answers the tally after the program.
 fn wrong_count(
+    to: Console,
     name: &[u8],
     tally: Tally,
     rows: usize,
@@ -58,23 +62,23 @@ fn wrong_count(
     end: &[u8],
 ) -> Tally {
     let wrong = tally.with_wrong();
-    say_place(name, wrong.lines);
-    say_number(announced as u64);
-    say(what);
-    say_number(right as u64);
-    say(end);
+    say_place(to, name, wrong.lines);
+    say_number(to, announced as u64);
+    say(to, what);
+    say_number(to, right as u64);
+    say(to, end);
     wrong.with_lines(rows)
 }
 
 // Says that the expansion has another count of rows.
-fn wrong_rows(name: &[u8], tally: Tally, rows: usize, right: usize) -> Tally {
+fn wrong_rows(to: Console, name: &[u8], tally: Tally, rows: usize, right: usize) -> Tally {
     let what = b" rows announced, the expansion has ";
-    wrong_count(name, tally, rows, rows, what, right, b"\n")
+    wrong_count(to, name, tally, rows, rows, what, right, b"\n")
 }
 
 // Says what is wrong with a program as a whole, and answers the tally after it.
-fn wrong_program(name: &[u8], tally: Tally, rows: usize, what: &[u8]) -> Tally {
-    wrong_line(name, tally, what).with_lines(rows)
+fn wrong_program(to: Console, name: &[u8], tally: Tally, rows: usize, what: &[u8]) -> Tally {
+    wrong_line(to, name, tally, what).with_lines(rows)
 }
 
 // The line that starts at `at`.
@@ -90,6 +94,7 @@ fn line_at(lines: &Lines, at: usize) -> [u8; 48]
 
 // Puts the words of a program, which its first rows name, into `program`.
 fn read_words(
+    to: Console,
     name: &[u8],
     tally: Tally,
     lines: &Lines,
@@ -113,7 +118,7 @@ fn read_words(
                 after = after.with_lines(1);
             }
             Head::NoLine => {
-                after = wrong_line(name, after, b"not a row line");
+                after = wrong_line(to, name, after, b"not a row line");
             }
         }
     }
@@ -142,22 +147,36 @@ fn starts_at(starts: &[u64], inst: usize, r: usize) -> bool {
     }
 }
 
-fn check_row(name: &[u8], tally: Tally, line: &[u8; 48], word: u64, distance: usize) -> Tally {
+fn check_row(
+    to: Console,
+    name: &[u8],
+    tally: Tally,
+    line: &[u8; 48],
+    word: u64,
+    distance: usize,
+) -> Tally {
     match listing::compare_row(line, word, distance) {
         Compared::Same(n) => tally.with_same(n),
         Compared::Differs(at) => {
             let wrong = tally.with_wrong();
-            say_differs(name, wrong.lines, at);
-            say_line(b"  stored   ", line);
+            say_differs(to, name, wrong.lines, at);
+            say_line(to, b"  stored   ", line);
             let made = listing::row_line_of(word, distance);
-            say_line(b"  expanded ", &made);
+            say_line(to, b"  expanded ", &made);
             wrong
         }
     }
 }
 
 // Compares the lines of a program with its rows.
-fn check_rows(name: &[u8], tally: Tally, lines: &Lines, rows: &[u64], starts: &[u64]) -> Tally
+fn check_rows(
+    to: Console,
+    name: &[u8],
+    tally: Tally,
+    lines: &Lines,
+    rows: &[u64],
+    starts: &[u64],
+) -> Tally
     requires { length rows.now ≤ 1365 }
 {
     let mut after = tally;
@@ -172,13 +191,14 @@ fn check_rows(name: &[u8], tally: Tally, lines: &Lines, rows: &[u64], starts: &[
             distance += 1;
         }
         let line = line_at(lines, r * 48);
-        after = check_row(name, after, &line, rows[r], distance);
+        after = check_row(to, name, after, &line, rows[r], distance);
     }
     after
 }
 
 // Checks rows and starts in buffers of the exact size against larger buffers and the lines.
 fn check_lent(
+    to: Console,
     name: &[u8],
     tally: Tally,
     lines: &Lines,
@@ -191,19 +211,20 @@ fn check_lent(
 {
     let n = rows.len();
     if !expand::is_expansion(rows) {
-        return wrong_program(name, tally, n, b"the rows are taken for no expansion");
+        return wrong_program(to, name, tally, n, b"the rows are taken for no expansion");
     }
     if !begins_with(wide_rows, rows) {
-        return wrong_program(name, tally, n, b"a larger buffer holds other rows");
+        return wrong_program(to, name, tally, n, b"a larger buffer holds other rows");
     }
     if !begins_with(wide_starts, starts) {
-        return wrong_program(name, tally, n, b"a larger buffer holds other starts");
+        return wrong_program(to, name, tally, n, b"a larger buffer holds other starts");
     }
-    check_rows(name, tally.with_lines(1), lines, rows, starts)
+    check_rows(to, name, tally.with_lines(1), lines, rows, starts)
 }
 
 // Expands a program of `n` rows into buffers of the exact size.
 fn check_exact(
+    to: Console,
     name: &[u8],
     tally: Tally,
     lines: &Lines,
@@ -219,16 +240,17 @@ fn check_exact(
     let rows = &mut row_places[0..n];
     let starts = &mut start_places[0..program.len()];
     let Expanded::Rows(count) = expand::expand_program(program, rows, starts) else {
-        return wrong_program(name, tally, n, b"buffers that suffice are refused");
+        return wrong_program(to, name, tally, n, b"buffers that suffice are refused");
     };
     if count != n {
-        return wrong_rows(name, tally, n, count);
+        return wrong_rows(to, name, tally, n, count);
     }
-    check_lent(name, tally, lines, rows, starts, wide_rows, wide_starts)
+    check_lent(to, name, tally, lines, rows, starts, wide_rows, wide_starts)
 }
 
 // Expands a program of so many row lines into buffers that are larger than it needs.
 fn check_expansion(
+    to: Console,
     name: &[u8],
     tally: Tally,
     lines: &Lines,
@@ -245,94 +267,108 @@ fn check_expansion(
     match expand::expand_program(program, &mut wide_rows, &mut wide_starts) {
         Expanded::Rows(n) => {
             if n == rows {
-                check_exact(name, tally, lines, program, n, &wide_rows, &wide_starts)
+                check_exact(to, name, tally, lines, program, n, &wide_rows, &wide_starts)
             } else {
-                wrong_rows(name, tally, rows, n)
+                wrong_rows(to, name, tally, rows, n)
             }
         }
         Expanded::Refused(e) => {
             let wrong = tally.with_wrong();
-            say_place(name, wrong.lines);
-            say(b"refused ");
-            say_number(e.number());
-            say(b"\n");
+            say_place(to, name, wrong.lines);
+            say(to, b"refused ");
+            say_number(to, e.number());
+            say(to, b"\n");
             wrong.with_lines(rows)
         }
     }
 }
 
 // Checks a program of so many words and rows by its row lines.
-fn check_program(name: &[u8], tally: Tally, words: usize, rows: usize, lines: &Lines) -> Tally
+fn check_program(
+    to: Console,
+    name: &[u8],
+    tally: Tally,
+    words: usize,
+    rows: usize,
+    lines: &Lines,
+) -> Tally
     requires { rows ≤ 1365 }
 {
     let mut program = [0u32; MAX_CASE_ROWS];
     let counted = tally.with_lines(1);
-    let read = read_words(name, counted, lines, rows, &mut program);
+    let read = read_words(to, name, counted, lines, rows, &mut program);
     let after = read.tally;
     if after.wrong != counted.wrong {
-        say_place(name, counted.lines);
-        say(b"not expanded\n");
+        say_place(to, name, counted.lines);
+        say(to, b"not expanded\n");
         return after;
     }
     let n = read.count;
     if n != words {
         let what = b" words announced, ";
-        return wrong_count(name, tally, rows, words, what, n, b" found\n");
+        return wrong_count(to, name, tally, rows, words, what, n, b" found\n");
     }
-    check_expansion(name, tally, lines, rows, &program, n)
+    check_expansion(to, name, tally, lines, rows, &program, n)
 }
 
 // Reads the row lines of a program, and checks it.
-fn read_program(fd: i32, name: &[u8], tally: Tally, words: usize, rows: usize) -> Next {
+fn read_program(
+    to: Console,
+    file: &mut File,
+    name: &[u8],
+    tally: Tally,
+    words: usize,
+    rows: usize,
+) -> Next {
     if MAX_CASE_ROWS < rows {
-        return Next::Last(wrong_line(name, tally, b"more than 1365 rows"));
+        return Next::Last(wrong_line(to, name, tally, b"more than 1365 rows"));
     }
-    let mut lines = io::large_buffer();
+    let mut lines = [0u8; 65536];
     let size = rows * 48;
-    let got = input::fill(fd, &mut lines[0..size]);
-    if got.failed {
-        os::fail(name);
+    let got = input::fill(file, &mut lines[0..size]);
+    if let Some(why) = got.failed {
+        input::fail(to.err, name, why);
         return Next::Failed;
     }
     if got.count < size {
-        return Next::Last(wrong_line(name, tally, b"cut short"));
+        return Next::Last(wrong_line(to, name, tally, b"cut short"));
     }
-    Next::Program(check_program(name, tally, words, rows, &lines))
+    Next::Program(check_program(to, name, tally, words, rows, &lines))
 }
 
 // Takes the next program of a list.
-fn check_next(fd: i32, name: &[u8], tally: Tally) -> Next {
+fn check_next(to: Console, file: &mut File, name: &[u8], tally: Tally) -> Next {
     let mut line = [0u8; 48];
-    let got = input::fill(fd, &mut line);
-    if got.failed {
-        os::fail(name);
+    let got = input::fill(file, &mut line);
+    if let Some(why) = got.failed {
+        input::fail(to.err, name, why);
         return Next::Failed;
     }
     if got.count == 0 {
         return Next::Last(tally);
     }
     if got.count < 48 {
-        return Next::Last(wrong_line(name, tally, b"cut short"));
+        return Next::Last(wrong_line(to, name, tally, b"cut short"));
     }
     match listing::program_counts(&line) {
-        Program::Counts(k, n) => read_program(fd, name, tally, k as usize, n as usize),
-        Program::NoLine => Next::Last(wrong_line(name, tally, b"not a program line")),
+        Program::Counts(k, n) => read_program(to, file, name, tally, k as usize, n as usize),
+        Program::NoLine => Next::Last(wrong_line(to, name, tally, b"not a program line")),
     }
 }
 
 // A proved loop has to end, and nothing says that a file does. So the loop counts the programs, to a
 // number that no list has.
-fn check_list(fd: i32, name: &[u8]) {
+fn check_list(to: Console, file: &mut File, name: &[u8]) {
     let mut tally = Tally::none();
     let mut programs: u64 = 0;
     while programs < u64::MAX {
-        match check_next(fd, name, tally) {
+        match check_next(to, file, name, tally) {
             Next::Program(t) => {
                 tally = t;
                 programs += 1;
             }
             Next::Last(t) => {
-                say_total(name, programs, t);
+                say_total(to, name, programs, t);
                 return;
             }
             Next::Failed => {
@@ -342,23 +378,27 @@ fn check_list(fd: i32, name: &[u8]) {
     }
 }
 
-fn check_argument(i: usize) {
-    let mut path = io::buffer();
-    let list = input::open_argument(i, &mut path);
+fn check_argument<R: Env + Files<File = File>>(rt: &R, to: Console, i: usize) {
+    let mut path = [0u8; 4096];
+    let list = input::open_argument(rt, to.err, i, &mut path);
     let n = list.length;
-    if list.fd >= 0 {
-        check_list(list.fd, &path[..n]);
-        libc::close(list.fd);
+    if let Some(mut file) = list.file {
+        check_list(to, &mut file, &path[..n]);
     }
 }
 
-fn main() {
-    let count = os::arg_count();
+fn main(rt: HostRuntime) {
+    let to = Console {
+        out: rt.stdout(),
+        err: rt.stderr(),
+    };
+    let count = input::argument_count(&rt);
     if count < 2 {
-        io::write_all(STDERR_FILENO, b"usage: expand_vectors LIST..\n");
+        // There is no place to tell that this fails.
+        let _ = to.err.write_all(b"usage: expand_vectors LIST..\n");
         return;
     }
     for i in 1..count {
-        check_argument(i);
+        check_argument(&rt, to, i);
     }
 }
