@@ -12,10 +12,13 @@ mod state;
 
 ghost use Rattle.std.specs.Prelude.{◌≤◌, length};
 
-use libc::STDERR_FILENO;
 use listing::hex_value;
-use report::{say, say_differs};
+use report::{Console, say, say_differs};
 use state::{State, give_up, say_total, wrong};
+use std::env::Env;
+use std::fs::File;
+use std::io::Print;
+use std::rt::Files;
 use text_lines::{Next, Text, Unread};
 
 // The most bytes of an input, and the digits that they have.
@@ -39,11 +42,11 @@ fn rest_of(out: &[u8], at: usize, made: usize) -> &[u8] {
 }
 
 // Says the first line of a made text.
-fn say_made(text: &[u8]) {
+fn say_made(to: Console, text: &[u8]) {
     let n = text_lines::line_length(text);
-    say(b"  made    o ");
-    say(&text[0..n]);
-    say(b"\n");
+    say(to, b"  made    o ");
+    say(to, &text[0..n]);
+    say(to, b"\n");
 }
 
 // The byte that two digits give; 256 where one is none.
@@ -85,6 +88,7 @@ fn run_case(state: State, input: &[u8], out: &mut Printed) -> State {
 
 // Takes the digits of an input line.
 fn digits_line(
+    to: Console,
     name: &[u8],
     digits: &[u8],
     state: State,
@@ -93,35 +97,42 @@ fn digits_line(
 ) -> State {
     let count = digits.len() / 2;
     if digits.len() > MAX_DIGITS {
-        return give_up(name, state, b"more than 4200 bytes");
+        return give_up(to, name, state, b"more than 4200 bytes");
     }
     if digits.len() % 2 != 0 {
-        return give_up(name, state, b"an odd number of digits");
+        return give_up(to, name, state, b"an odd number of digits");
     }
     if !put_bytes(digits, input) {
-        return give_up(name, state, b"not lower-case hexadecimal digits");
+        return give_up(to, name, state, b"not lower-case hexadecimal digits");
     }
     let all = &input[..];
     run_case(state, &all[0..count], out)
 }
 
 // A case ends where the next one begins or the file ends.
-fn end_case(name: &[u8], state: State, out: &Printed, what: &[u8]) -> State {
+fn end_case(to: Console, name: &[u8], state: State, out: &Printed, what: &[u8]) -> State {
     let text = rest_of(out, state.at, state.made);
     if state.given_up || text.len() == 0 {
         return state;
     }
-    let after = wrong(name, state, what);
-    say_made(text);
+    let after = wrong(to, name, state, what);
+    say_made(to, text);
     after
 }
 
-fn input_line(name: &[u8], line: &[u8], state: State, input: &mut Input, out: &mut Printed) -> State
+fn input_line(
+    to: Console,
+    name: &[u8],
+    line: &[u8],
+    state: State,
+    input: &mut Input,
+    out: &mut Printed,
+) -> State
     requires { 3 ≤ length line.now }
 {
-    let ended = end_case(name, state, out, b"the case before ends early");
+    let ended = end_case(to, name, state, out, b"the case before ends early");
     let end = line.len() - 1;
-    digits_line(name, &line[2..end], ended, input, out)
+    digits_line(to, name, &line[2..end], ended, input, out)
 }
 
 // The first column from 2 on that differs from the text; the length of the line where there is none.
@@ -139,17 +150,24 @@ fn first_wrong(line: &[u8], text: &[u8]) -> usize {
 
 // Says that a line differs from the next one of the made text. The line after it is compared with the
 // one after that.
-fn line_differs(name: &[u8], line: &[u8], state: State, text: &[u8], at: usize) -> State {
-    say_differs(name, state.lines, at);
-    say(b"  stored  ");
-    say(line);
-    say_made(text);
+fn line_differs(
+    to: Console,
+    name: &[u8],
+    line: &[u8],
+    state: State,
+    text: &[u8],
+    at: usize,
+) -> State {
+    say_differs(to, name, state.lines, at);
+    say(to, b"  stored  ");
+    say(to, line);
+    say_made(to, text);
     let n = text_lines::line_length(text);
     state.with_other(if n < text.len() { n + 1 } else { n })
 }
 
 // Compares a line with the next one of the made text, both with their line feeds.
-fn printed_line(name: &[u8], line: &[u8], state: State, out: &Printed) -> State
+fn printed_line(to: Console, name: &[u8], line: &[u8], state: State, out: &Printed) -> State
     requires { 3 ≤ length line.now }
 {
     if state.given_up {
@@ -157,21 +175,22 @@ fn printed_line(name: &[u8], line: &[u8], state: State, out: &Printed) -> State
     }
     let text = rest_of(out, state.at, state.made);
     if text.len() == 0 {
-        return wrong(name, state, b"no further line is made");
+        return wrong(to, name, state, b"no further line is made");
     }
     let at = first_wrong(line, text);
     if at < line.len() {
-        return line_differs(name, line, state, text, at);
+        return line_differs(to, name, line, state, text, at);
     }
     state.with_same(line.len() - 2)
 }
 
-fn other_line(name: &[u8], state: State) -> State {
-    give_up(name, state, b"neither an input nor a printed line")
+fn other_line(to: Console, name: &[u8], state: State) -> State {
+    give_up(to, name, state, b"neither an input nor a printed line")
 }
 
 // Takes a line, which has its line feed at its end.
 fn check_line(
+    to: Console,
     name: &[u8],
     line: &[u8],
     before: State,
@@ -180,41 +199,52 @@ fn check_line(
 ) -> State {
     let state = before.with_line();
     if line.len() < 3 {
-        return other_line(name, state);
+        return other_line(to, name, state);
     }
     if line[1] != b' ' {
-        return other_line(name, state);
+        return other_line(to, name, state);
     }
     let letter = line[0];
     match letter {
-        b'i' => input_line(name, line, state, input, out),
-        b'o' => printed_line(name, line, state, out),
-        _ => other_line(name, state),
+        b'i' => input_line(to, name, line, state, input, out),
+        b'o' => printed_line(to, name, line, state, out),
+        _ => other_line(to, name, state),
     }
 }
 
 // Says how a file ends.
-fn end_file(name: &[u8], state: State, next: Next, out: &Printed) {
+fn end_file(to: Console, name: &[u8], state: State, next: Next, out: &Printed) {
     let last = state.with_line();
     match next {
-        Next::Failed => {
-            os::fail(name);
+        Next::Failed(why) => {
+            input::fail(to.err, name, why);
         }
-        Next::Cut => say_total(name, wrong(name, last, b"cut short")),
-        Next::Long => say_total(name, wrong(name, last, b"too long to be read")),
-        _ => say_total(name, end_case(name, state, out, b"the case ends early")),
+        Next::Cut => say_total(to, name, wrong(to, name, last, b"cut short")),
+        Next::Long => say_total(to, name, wrong(to, name, last, b"too long to be read")),
+        _ => say_total(
+            to,
+            name,
+            end_case(to, name, state, out, b"the case ends early"),
+        ),
     }
 }
 
 // A proved loop has to end, and nothing says that a file does. So the loop counts its turns down,
 // from a number that no run uses up.
-fn check_lines(fd: i32, name: &[u8], text: &mut Text, input: &mut Input, out: &mut Printed) {
+fn check_lines(
+    to: Console,
+    file: &mut File,
+    name: &[u8],
+    text: &mut Text,
+    input: &mut Input,
+    out: &mut Printed,
+) {
     let mut state = State::none();
     let mut unread = Unread::none();
     let mut turns = u64::MAX;
     while turns > 0 {
         turns -= 1;
-        let taken = text_lines::take_text(fd, text, unread);
+        let taken = text_lines::take_text(file, text, unread);
         unread = taken.unread;
         let start = taken.start;
         let end = taken.stop + 1;
@@ -222,40 +252,44 @@ fn check_lines(fd: i32, name: &[u8], text: &mut Text, input: &mut Input, out: &m
         match next {
             Next::Line => {
                 let all = &text[..];
-                state = check_line(name, &all[start..end], state, input, out);
+                state = check_line(to, name, &all[start..end], state, input, out);
             }
             _ => {
-                end_file(name, state, next, out);
+                end_file(to, name, state, next, out);
                 return;
             }
         }
     }
 }
 
-fn check_file(fd: i32, name: &[u8]) {
-    let mut text = io::large_buffer();
+fn check_file(to: Console, file: &mut File, name: &[u8]) {
+    let mut text = [0u8; 65536];
     let mut input = [0u8; MAX_CASE_BYTES];
     let mut out = [0u8; lines::TEXT];
-    check_lines(fd, name, &mut text, &mut input, &mut out);
+    check_lines(to, file, name, &mut text, &mut input, &mut out);
 }
 
-fn check_argument(i: usize) {
-    let mut path = io::buffer();
-    let file = input::open_argument(i, &mut path);
-    let n = file.length;
-    if file.fd >= 0 {
-        check_file(file.fd, &path[..n]);
-        libc::close(file.fd);
+fn check_argument<R: Env + Files<File = File>>(rt: &R, to: Console, i: usize) {
+    let mut path = [0u8; 4096];
+    let list = input::open_argument(rt, to.err, i, &mut path);
+    let n = list.length;
+    if let Some(mut file) = list.file {
+        check_file(to, &mut file, &path[..n]);
     }
 }
 
-fn main() {
-    let count = os::arg_count();
+fn main(rt: HostRuntime) {
+    let to = Console {
+        out: rt.stdout(),
+        err: rt.stderr(),
+    };
+    let count = input::argument_count(&rt);
     if count < 2 {
-        io::write_all(STDERR_FILENO, b"usage: trace_vectors LIST..\n");
+        // There is no place to tell that this fails.
+        let _ = to.err.write_all(b"usage: trace_vectors LIST..\n");
         return;
     }
     for i in 1..count {
-        check_argument(i);
+        check_argument(&rt, to, i);
     }
 }

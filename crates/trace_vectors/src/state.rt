@@ -1,5 +1,5 @@
 // Where the replay of a file stands, and what it says.
-use report::{one_more, say, say_count, say_place};
+use report::{Console, one_more, say, say_count, say_place};
 
 // The length of the made text, and the place in it where the next line begins; whether the case is
 // given up; the number of the last line; and the counts that the totals give. Characters are those of
@@ -79,25 +79,25 @@ impl State {
     }
 }
 
-pub fn say_total(name: &[u8], state: State) {
-    say(name);
-    say(b": ");
-    say_count(state.cases, b" cases, ");
-    say_count(state.compared, b" lines compared, ");
-    say_count(state.characters, b" characters compared, ");
-    say_count(state.passed, b" passed over, ");
-    say_count(state.wrong, b" wrong\n");
+pub fn say_total(to: Console, name: &[u8], state: State) {
+    say(to, name);
+    say(to, b": ");
+    say_count(to, state.cases, b" cases, ");
+    say_count(to, state.compared, b" lines compared, ");
+    say_count(to, state.characters, b" characters compared, ");
+    say_count(to, state.passed, b" passed over, ");
+    say_count(to, state.wrong, b" wrong\n");
 }
 
 // Says what is wrong with the last line.
-pub fn wrong(name: &[u8], state: State, what: &[u8]) -> State {
-    say_place(name, state.lines);
-    say(what);
-    say(b"\n");
+pub fn wrong(to: Console, name: &[u8], state: State, what: &[u8]) -> State {
+    say_place(to, name, state.lines);
+    say(to, what);
+    say(to, b"\n");
     state.with_wrong()
 }
 
 // The same, where the rest of the case cannot be compared.
-pub fn give_up(name: &[u8], state: State, what: &[u8]) -> State {
-    wrong(name, state, what).with_given_up()
+pub fn give_up(to: Console, name: &[u8], state: State, what: &[u8]) -> State {
+    wrong(to, name, state, what).with_given_up()
 }
