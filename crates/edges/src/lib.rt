@@ -11,7 +11,7 @@ ghost use Rattle.edges.specs.Cursors.{cells_of, marked_regs, marked_ram, marked_
 
 use expand::MicroPc;
 use interp::{Cursor, Outcome};
-use report::{say, say_number};
+use report::{Console, say, say_number};
 
 // What a place of a record buffer holds before a call.
 pub const GUARD: u64 = 0xa5a5_a5a5_a5a5_a5a5;
@@ -40,15 +40,15 @@ pub fn bit(b: bool) -> u64
 }
 
 // Says a number that is not the expected one, and answers whether it is.
-pub fn say_wrong(what: &[u8], want: u64, found: u64) -> bool {
+pub fn say_wrong(to: Console, what: &[u8], want: u64, found: u64) -> bool {
     if want == found {
         return true;
     }
-    say(b", WRONG ");
-    say(what);
-    say_number(found);
-    say(b", expected ");
-    say_number(want);
+    say(to, b", WRONG ");
+    say(to, what);
+    say_number(to, found);
+    say(to, b", expected ");
+    say_number(to, want);
     false
 }
 
@@ -75,21 +75,21 @@ fn differ_at(want: &[u64], rest: u64, found: &[u64]) -> usize
 }
 
 // Says the first place where `found` is not `want` and then `rest`, and answers whether there is none.
-pub fn say_differs(what: &[u8], want: &[u64], rest: u64, found: &[u64]) -> bool {
+pub fn say_differs(to: Console, what: &[u8], want: &[u64], rest: u64, found: &[u64]) -> bool {
     let at = differ_at(want, rest, found);
     if at < found.len() {
-        return say_place_wrong(what, at);
+        return say_place_wrong(to, what, at);
     }
     if found.len() < want.len() {
-        return say_place_wrong(what, at);
+        return say_place_wrong(to, what, at);
     }
     true
 }
 
-fn say_place_wrong(what: &[u8], at: usize) -> bool {
-    say(b", WRONG ");
-    say(what);
-    say_number(at as u64);
+fn say_place_wrong(to: Console, what: &[u8], at: usize) -> bool {
+    say(to, b", WRONG ");
+    say(to, what);
+    say_number(to, at as u64);
     false
 }
 
