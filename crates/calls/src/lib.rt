@@ -7,6 +7,7 @@ ghost use Rattle.calls.specs.Parse.{no_number, digits_from, spaced_number, bad_l
 
 use edges::CELLS;
 use listing::hex_value;
+use std::io::Read;
 use text_lines::{Next, Text, Unread};
 
 // The most numbers of a line.
@@ -163,10 +164,10 @@ pub fn place_of(line: Line, register: u8, word: u8, count: usize) -> usize
 }
 
 // Takes the next line of a file.
-pub fn take_line(fd: i32, text: &mut Text, unread: Unread) -> Taken
+pub fn take_line<R: Read>(reader: &mut R, text: &mut Text, unread: Unread) -> Taken
     ensures { (result.unread.at ≤ result.unread.end) × (result.unread.end ≤ 65536) }
 {
-    let taken = text_lines::take_text(fd, text, unread);
+    let taken = text_lines::take_text(reader, text, unread);
     let next = taken.next;
     let rest = taken.unread;
     let start = taken.start;
