@@ -1,7 +1,7 @@
 // The cells of a cursor: what a fresh one has, and what differs.
 use crate::state::State;
 use edges::{CELLS, Cells};
-use report::{say, say_both, say_number, say_place};
+use report::{Console, say, say_both, say_number, say_place};
 
 fn word_or_zero(words: &[u64], i: usize) -> u64 {
     if i < words.len() { words[i] } else { 0 }
@@ -16,29 +16,36 @@ pub fn start_cells(input: &[u64]) -> Cells {
     cells
 }
 
-fn say_cell(place: usize) {
+fn say_cell(to: Console, place: usize) {
     if place < 64 {
-        say(b"register ");
-        say_number(place as u64);
+        say(to, b"register ");
+        say_number(to, place as u64);
     } else {
-        say(b"RAM word ");
-        say_number(place as u64 - 64);
+        say(to, b"RAM word ");
+        say_number(to, place as u64 - 64);
     }
 }
 
-pub fn wrong_cell(name: &[u8], state: State, place: usize, want: u64, found: u64) -> State {
-    say_place(name, state.counts.lines);
-    say_cell(place);
-    say_both(want, found);
+pub fn wrong_cell(
+    to: Console,
+    name: &[u8],
+    state: State,
+    place: usize,
+    want: u64,
+    found: u64,
+) -> State {
+    say_place(to, name, state.counts.lines);
+    say_cell(to, place);
+    say_both(to, want, found);
     state.with_wrong()
 }
 
 // Compares all cells, and says each that differs.
-pub fn check_cells(name: &[u8], state: State, want: &Cells, found: &Cells) -> State {
+pub fn check_cells(to: Console, name: &[u8], state: State, want: &Cells, found: &Cells) -> State {
     let mut after = state;
     for i in 0..CELLS {
         if want[i] != found[i] {
-            after = wrong_cell(name, after, i, want[i], found[i]);
+            after = wrong_cell(to, name, after, i, want[i], found[i]);
         }
     }
     after

@@ -26,9 +26,12 @@ use cells::{check_cells, start_cells, wrong_cell};
 use edges::{CELLS, Cells, GUARD, bit, cells_of, first_of, number_of};
 use expand::Expanded;
 use interp::{Answer, Cursor};
-use libc::STDERR_FILENO;
-use report::{say, say_both, say_number, say_place};
+use report::{Console, say, say_both, say_number, say_place};
 use state::{Phase, State, check_field, give_up, say_total, wrong};
+use std::env::Env;
+use std::fs::File;
+use std::io::Print;
+use std::rt::Files;
 use text_lines::{Next, Text, Unread};
 
 // The most words of a program, its rows, and the words of an input.
@@ -89,18 +92,18 @@ impl Run {
     }
 }
 
-fn stop(name: &[u8], run: Run, what: &[u8]) -> Run {
-    run.with_state(give_up(name, run.state, what))
+fn stop(to: Console, name: &[u8], run: Run, what: &[u8]) -> Run {
+    run.with_state(give_up(to, name, run.state, what))
 }
 
 // Compares the cells after a call. The next call goes on with those that were found, so that a wrong
 // one is said once.
-fn end_call(name: &[u8], run: Run) -> Run {
+fn end_call(to: Console, name: &[u8], run: Run) -> Run {
     let machine = run.machine;
     let cursor = machine.cursor;
     let want = machine.want;
     let found = cells_of(cursor);
-    let state = check_cells(name, run.state, &want, &found);
+    let state = check_cells(to, name, run.state, &want, &found);
     Run {
         state: state.with_phase(Phase::Call),
         machine: Machine {
@@ -111,13 +114,13 @@ fn end_call(name: &[u8], run: Run) -> Run {
 }
 
 // A list ends where the next one begins or the file ends.
-fn end_list(name: &[u8], run: Run) -> Run {
+fn end_list(to: Console, name: &[u8], run: Run) -> Run {
     let state = run.state;
     let phase = state.phase;
     match phase {
         Phase::First | Phase::List | Phase::Call => run,
-        Phase::Cell(_) => end_call(name, run),
-        _ => stop(name, run, b"the list ends early"),
+        Phase::Cell(_) => end_call(to, name, run),
+        _ => stop(to, name, run, b"the list ends early"),
     }
 }
 
@@ -137,10 +140,10 @@ fn first_phase(words: u64, inputs: u64) -> Phase {
     }
 }
 
-fn list_line(name: &[u8], line: Line, run: Run) -> Run {
+fn list_line(to: Console, name: &[u8], line: Line, run: Run) -> Run {
     let state = run.state.with_line();
     if line.count != 2 {
-        return run.with_state(give_up(name, state, b"not a list line"));
+        return run.with_state(give_up(to, name, state, b"not a list line"));
     }
     let none = [0u64; 0];
     let words = line.values[0];
@@ -152,16 +155,17 @@ fn list_line(name: &[u8], line: Line, run: Run) -> Run {
     }
 }
 
-fn expanded(name: &[u8], state: State, program: &[u32], rows: &mut Rows) -> State {
+fn expanded(to: Console, name: &[u8], state: State, program: &[u32], rows: &mut Rows) -> State {
     let mut starts = [0u64; MAX_CASE_WORDS];
     match expand::expand_program(program, rows, &mut starts) {
         Expanded::Rows(n) => state.with_rows(n).with_phase(after_words(state.inputs)),
-        Expanded::Refused(_) => give_up(name, state, b"the program is not expanded"),
+        Expanded::Refused(_) => give_up(to, name, state, b"the program is not expanded"),
     }
 }
 
 // Takes word `i` of the program, and expands it after the last one.
 fn word_line(
+    to: Console,
     name: &[u8],
     line: Line,
     state: State,
@@ -171,13 +175,13 @@ fn word_line(
 ) -> State {
     let word = line.values[0];
     if !is_line(line, b'w', 1) {
-        return give_up(name, state, b"not a word line");
+        return give_up(to, name, state, b"not a word line");
     }
     if word > 0xffff_ffff {
-        return give_up(name, state, b"a word of more than 32 bits");
+        return give_up(to, name, state, b"a word of more than 32 bits");
     }
     if i >= MAX_CASE_WORDS {
-        return give_up(name, state, b"more than 256 words");
+        return give_up(to, name, state, b"more than 256 words");
     }
     program[i] = word as u32;
     let count = i + 1;
@@ -185,17 +189,17 @@ fn word_line(
         return state.with_phase(Phase::Word(count));
     }
     let all = &program[..];
-    expanded(name, state, &all[0..count], rows)
+    expanded(to, name, state, &all[0..count], rows)
 }
 
 // Takes word `i` of the input, and makes the fresh machine after the last one.
-fn input_line(name: &[u8], line: Line, run: Run, i: usize, input: &mut Input) -> Run {
+fn input_line(to: Console, name: &[u8], line: Line, run: Run, i: usize, input: &mut Input) -> Run {
     let state = run.state;
     if !is_line(line, b'i', 1) {
-        return stop(name, run, b"not an input line");
+        return stop(to, name, run, b"not an input line");
     }
     if i >= MAX_INPUT {
-        return stop(name, run, b"more than 512 words of input");
+        return stop(to, name, run, b"more than 512 words of input");
     }
     input[i] = line.values[0];
     let count = i + 1;
@@ -238,27 +242,34 @@ fn first_written(records: &Records, from: usize) -> usize {
 }
 
 // Checks the places past those that a call writes. The cursor comes next.
-fn check_kept(name: &[u8], state: State, records: &Records, from: usize) -> State {
+fn check_kept(to: Console, name: &[u8], state: State, records: &Records, from: usize) -> State {
     let next = state.with_phase(Phase::Cursor);
     let at = first_written(records, from);
     if at < PLACES {
-        say_place(name, state.counts.lines);
-        say(b"place ");
-        say_number(at as u64);
-        say(b" is past the records and not kept\n");
+        say_place(to, name, state.counts.lines);
+        say(to, b"place ");
+        say_number(to, at as u64);
+        say(to, b" is past the records and not kept\n");
         return next.with_wrong();
     }
     next
 }
 
 // Checks what a call returned; where it has no records, also what it wrote.
-fn check_answer(name: &[u8], state: State, code: u64, number: u64, records: &Records) -> State {
+fn check_answer(
+    to: Console,
+    name: &[u8],
+    state: State,
+    code: u64,
+    number: u64,
+    records: &Records,
+) -> State {
     if number != code {
-        let differs = check_field(name, state, b"code", code, number);
+        let differs = check_field(to, name, state, b"code", code, number);
         return differs.with_phase(Phase::List);
     }
     if state.cycles == 0 {
-        return check_kept(name, state, records, 0);
+        return check_kept(to, name, state, records, 0);
     }
     state.with_phase(Phase::Record(0))
 }
@@ -270,13 +281,20 @@ fn is_call(line: Line) -> bool {
     is_line(line, b's', 3)
 }
 
-fn call_line(name: &[u8], line: Line, run: Run, rows: &Rows, records: &mut Records) -> Run {
+fn call_line(
+    to: Console,
+    name: &[u8],
+    line: Line,
+    run: Run,
+    rows: &Rows,
+    records: &mut Records,
+) -> Run {
     let state = run.state;
     if !is_call(line) {
-        return stop(name, run, b"not a call line");
+        return stop(to, name, run, b"not a call line");
     }
     if line.values[1] > MAX_ROOM {
-        return stop(name, run, b"more than 8744 words lent");
+        return stop(to, name, run, b"more than 8744 words lent");
     }
     let n = line.values[0];
     let room = line.values[1] as usize;
@@ -291,7 +309,7 @@ fn call_line(name: &[u8], line: Line, run: Run, rows: &Rows, records: &mut Recor
     let cursor = answer.cursor;
     let called = state.with_call(if code == 0 { n } else { 0 });
     Run {
-        state: check_answer(name, called, code, number, records),
+        state: check_answer(to, name, called, code, number, records),
         machine: Machine { cursor, want },
     }
 }
@@ -308,42 +326,56 @@ fn first_wrong(want: &[u64; 17], records: &Records, base: usize) -> usize
     17
 }
 
-fn check_record(name: &[u8], state: State, want: &[u64; 17], records: &Records, i: usize) -> State
+fn check_record(
+    to: Console,
+    name: &[u8],
+    state: State,
+    want: &[u64; 17],
+    records: &Records,
+    i: usize,
+) -> State
     requires { i < 512 }
 {
     let at = first_wrong(want, records, 17 * i);
     if at < 17 {
-        say_place(name, state.counts.lines);
-        say(b"record ");
-        say_number(i as u64);
-        say(b" word ");
-        say_number(at as u64);
-        say_both(want[at], records[17 * i + at]);
+        say_place(to, name, state.counts.lines);
+        say(to, b"record ");
+        say_number(to, i as u64);
+        say(to, b" word ");
+        say_number(to, at as u64);
+        say_both(to, want[at], records[17 * i + at]);
         return state.with_wrong();
     }
     state
 }
 
 // Checks record `i`; after the last one also what was written past it.
-fn record_line(name: &[u8], line: Line, state: State, i: usize, records: &Records) -> State {
+fn record_line(
+    to: Console,
+    name: &[u8],
+    line: Line,
+    state: State,
+    i: usize,
+    records: &Records,
+) -> State {
     if !is_line(line, b'r', 17) {
-        return give_up(name, state, b"not a record line");
+        return give_up(to, name, state, b"not a record line");
     }
     if i >= MAX_RECORDS {
-        return give_up(name, state, b"more than 512 records");
+        return give_up(to, name, state, b"more than 512 records");
     }
     let values = line.values;
-    let after = check_record(name, state.with_record(), &values, records, i);
+    let after = check_record(to, name, state.with_record(), &values, records, i);
     let count = i + 1;
     if (count as u64) < state.cycles {
         return after.with_phase(Phase::Record(count));
     }
-    check_kept(name, after, records, 17 * count)
+    check_kept(to, name, after, records, 17 * count)
 }
 
-fn cursor_line(name: &[u8], line: Line, run: Run) -> Run {
+fn cursor_line(to: Console, name: &[u8], line: Line, run: Run) -> Run {
     if !is_line(line, b'c', 5) {
-        return stop(name, run, b"not a cursor line");
+        return stop(to, name, run, b"not a cursor line");
     }
     let machine = run.machine;
     let cursor = machine.cursor;
@@ -351,17 +383,24 @@ fn cursor_line(name: &[u8], line: Line, run: Run) -> Run {
     let pc = cursor.micro_pc.0 as u64;
     let halted = bit(cursor.halted);
     let fetch = cursor.next_fetch.0 as u64;
-    let a = check_field(name, run.state, b"micro_pc", want[0], pc);
-    let b = check_field(name, a, b"cycles", want[1], cursor.cycles);
-    let c = check_field(name, b, b"halted", want[2], halted);
-    let d = check_field(name, c, b"output", want[3], cursor.output);
-    let e = check_field(name, d, b"next_fetch", want[4], fetch);
+    let a = check_field(to, name, run.state, b"micro_pc", want[0], pc);
+    let b = check_field(to, name, a, b"cycles", want[1], cursor.cycles);
+    let c = check_field(to, name, b, b"halted", want[2], halted);
+    let d = check_field(to, name, c, b"output", want[3], cursor.output);
+    let e = check_field(to, name, d, b"next_fetch", want[4], fetch);
     run.with_state(e.with_phase(Phase::Cell(0)))
 }
 
 // Checks a cell that the list says is changed. It is compared again with the others after the call,
 // as it was found, so that a wrong one is said once.
-fn check_cell(name: &[u8], state: State, machine: Machine, place: usize, value: u64) -> Run
+fn check_cell(
+    to: Console,
+    name: &[u8],
+    state: State,
+    machine: Machine,
+    place: usize,
+    value: u64,
+) -> Run
     requires { place < 320 }
 {
     let mut after = machine;
@@ -370,13 +409,13 @@ fn check_cell(name: &[u8], state: State, machine: Machine, place: usize, value: 
     after.want[place] = found[place];
     if value != found[place] {
         return Run {
-            state: wrong_cell(name, state, place, value, found[place]),
+            state: wrong_cell(to, name, state, place, value, found[place]),
             machine: after,
         };
     }
     if value == before {
         return Run {
-            state: wrong(name, state, b"the value from before the call"),
+            state: wrong(to, name, state, b"the value from before the call"),
             machine: after,
         };
     }
@@ -386,22 +425,23 @@ fn check_cell(name: &[u8], state: State, machine: Machine, place: usize, value: 
     }
 }
 
-fn cell_line(name: &[u8], line: Line, run: Run, from: usize) -> Run {
+fn cell_line(to: Console, name: &[u8], line: Line, run: Run, from: usize) -> Run {
     let state = run.state;
     let place = place_of(line, b'g', b'm', 2);
     if place >= CELLS {
-        return stop(name, run, b"not a cell line");
+        return stop(to, name, run, b"not a cell line");
     }
     if place < from {
-        return run.with_state(wrong(name, state, b"not in ascending order"));
+        return run.with_state(wrong(to, name, state, b"not in ascending order"));
     }
     let next = state.with_phase(Phase::Cell(place + 1));
     let machine = run.machine;
-    check_cell(name, next, machine, place, line.values[1])
+    check_cell(to, name, next, machine, place, line.values[1])
 }
 
 // Takes a line that begins no list.
 fn inner_line(
+    to: Console,
     name: &[u8],
     line: Line,
     run: Run,
@@ -413,31 +453,32 @@ fn inner_line(
     let state = run.state;
     let phase = state.phase;
     match phase {
-        Phase::First => stop(name, run, b"not a list line"),
+        Phase::First => stop(to, name, run, b"not a list line"),
         Phase::List => run.with_state(state.with_passed()),
-        Phase::Word(i) => run.with_state(word_line(name, line, state, i, program, rows)),
-        Phase::Input(i) => input_line(name, line, run, i, input),
-        Phase::Call => call_line(name, line, run, rows, records),
-        Phase::Record(i) => run.with_state(record_line(name, line, state, i, records)),
-        Phase::Cursor => cursor_line(name, line, run),
-        Phase::Cell(from) => cell_line(name, line, run, from),
+        Phase::Word(i) => run.with_state(word_line(to, name, line, state, i, program, rows)),
+        Phase::Input(i) => input_line(to, name, line, run, i, input),
+        Phase::Call => call_line(to, name, line, run, rows, records),
+        Phase::Record(i) => run.with_state(record_line(to, name, line, state, i, records)),
+        Phase::Cursor => cursor_line(to, name, line, run),
+        Phase::Cell(from) => cell_line(to, name, line, run, from),
     }
 }
 
 // A call ends before a line that names no cell.
-fn before_line(name: &[u8], letter: u8, run: Run) -> Run {
+fn before_line(to: Console, name: &[u8], letter: u8, run: Run) -> Run {
     if letter == b'g' || letter == b'm' {
         return run;
     }
     let state = run.state;
     let phase = state.phase;
     match phase {
-        Phase::Cell(_) => end_call(name, run),
+        Phase::Cell(_) => end_call(to, name, run),
         _ => run,
     }
 }
 
 fn check_line(
+    to: Console,
     name: &[u8],
     line: Line,
     run: Run,
@@ -447,31 +488,32 @@ fn check_line(
     records: &mut Records,
 ) -> Run {
     if line.letter == b'l' {
-        return list_line(name, line, end_list(name, run));
+        return list_line(to, name, line, end_list(to, name, run));
     }
-    let before = before_line(name, line.letter, run);
+    let before = before_line(to, name, line.letter, run);
     let state = before.state.with_line();
     let now = before.with_state(state);
-    inner_line(name, line, now, program, input, rows, records)
+    inner_line(to, name, line, now, program, input, rows, records)
 }
 
 // Says how a file ends.
-fn end_file(name: &[u8], run: Run, next: Next) {
+fn end_file(to: Console, name: &[u8], run: Run, next: Next) {
     let last = run.state.with_line();
     match next {
-        Next::Failed => {
-            os::fail(name);
+        Next::Failed(why) => {
+            input::fail(to.err, name, why);
         }
-        Next::Cut => say_total(name, wrong(name, last, b"cut short")),
-        Next::Long => say_total(name, wrong(name, last, b"too long to be read")),
-        _ => say_total(name, end_list(name, run).state),
+        Next::Cut => say_total(to, name, wrong(to, name, last, b"cut short")),
+        Next::Long => say_total(to, name, wrong(to, name, last, b"too long to be read")),
+        _ => say_total(to, name, end_list(to, name, run).state),
     }
 }
 
 // A proved loop has to end, and nothing says that a file does. So the loop counts its turns down,
 // from a number that no run uses up.
 fn check_lines(
-    fd: i32,
+    to: Console,
+    file: &mut File,
     name: &[u8],
     text: &mut Text,
     program: &mut Program,
@@ -484,30 +526,31 @@ fn check_lines(
     let mut turns = u64::MAX;
     while turns > 0 {
         turns -= 1;
-        let taken = calls::take_line(fd, text, unread);
+        let taken = calls::take_line(file, text, unread);
         unread = taken.unread;
         let next = taken.next;
         match next {
             Next::Line => {
                 let line = taken.line;
-                run = check_line(name, line, run, program, input, rows, records);
+                run = check_line(to, name, line, run, program, input, rows, records);
             }
             _ => {
-                end_file(name, run, next);
+                end_file(to, name, run, next);
                 return;
             }
         }
     }
 }
 
-fn check_file(fd: i32, name: &[u8]) {
-    let mut text = io::large_buffer();
+fn check_file(to: Console, file: &mut File, name: &[u8]) {
+    let mut text = [0u8; 65536];
     let mut program = [0u32; MAX_CASE_WORDS];
     let mut input = [0u64; MAX_INPUT];
     let mut rows = [0u64; MAX_CASE_ROWS];
     let mut records = [GUARD; PLACES];
     check_lines(
-        fd,
+        to,
+        file,
         name,
         &mut text,
         &mut program,
@@ -517,23 +560,27 @@ fn check_file(fd: i32, name: &[u8]) {
     );
 }
 
-fn check_argument(i: usize) {
-    let mut path = io::buffer();
-    let file = input::open_argument(i, &mut path);
-    let n = file.length;
-    if file.fd >= 0 {
-        check_file(file.fd, &path[..n]);
-        libc::close(file.fd);
+fn check_argument<R: Env + Files<File = File>>(rt: &R, to: Console, i: usize) {
+    let mut path = [0u8; 4096];
+    let list = input::open_argument(rt, to.err, i, &mut path);
+    let n = list.length;
+    if let Some(mut file) = list.file {
+        check_file(to, &mut file, &path[..n]);
     }
 }
 
-fn main() {
-    let count = os::arg_count();
+fn main(rt: HostRuntime) {
+    let to = Console {
+        out: rt.stdout(),
+        err: rt.stderr(),
+    };
+    let count = input::argument_count(&rt);
     if count < 2 {
-        io::write_all(STDERR_FILENO, b"usage: interp_vectors LIST..\n");
+        // There is no place to tell that this fails.
+        let _ = to.err.write_all(b"usage: interp_vectors LIST..\n");
         return;
     }
     for i in 1..count {
-        check_argument(i);
+        check_argument(&rt, to, i);
     }
 }

@@ -1,5 +1,5 @@
 // Where the replay of a file stands, and what it says.
-use report::{Counts, one_more, say, say_both, say_count, say_counts, say_place};
+use report::{Console, Counts, one_more, say, say_both, say_count, say_counts, say_place};
 
 // What the next line is to be.
 #[derive(Clone, Copy)]
@@ -110,31 +110,38 @@ impl State {
     }
 }
 
-pub fn say_total(name: &[u8], state: State) {
-    say(name);
-    say(b": ");
-    say_count(state.lists, b" lists, ");
-    say_count(state.calls, b" calls, ");
-    say_count(state.records, b" records, ");
-    say_counts(state.counts);
+pub fn say_total(to: Console, name: &[u8], state: State) {
+    say(to, name);
+    say(to, b": ");
+    say_count(to, state.lists, b" lists, ");
+    say_count(to, state.calls, b" calls, ");
+    say_count(to, state.records, b" records, ");
+    say_counts(to, state.counts);
 }
 
 // Says what is wrong with the last line.
-pub fn wrong(name: &[u8], state: State, what: &[u8]) -> State {
-    state.with_counts(report::wrong(name, state.counts, what))
+pub fn wrong(to: Console, name: &[u8], state: State, what: &[u8]) -> State {
+    state.with_counts(report::wrong(to, name, state.counts, what))
 }
 
 // The same, where the rest of the list cannot be run.
-pub fn give_up(name: &[u8], state: State, what: &[u8]) -> State {
-    wrong(name, state, what).with_phase(Phase::List)
+pub fn give_up(to: Console, name: &[u8], state: State, what: &[u8]) -> State {
+    wrong(to, name, state, what).with_phase(Phase::List)
 }
 
-pub fn check_field(name: &[u8], state: State, what: &[u8], want: u64, found: u64) -> State {
+pub fn check_field(
+    to: Console,
+    name: &[u8],
+    state: State,
+    what: &[u8],
+    want: u64,
+    found: u64,
+) -> State {
     if want == found {
         return state;
     }
-    say_place(name, state.counts.lines);
-    say(what);
-    say_both(want, found);
+    say_place(to, name, state.counts.lines);
+    say(to, what);
+    say_both(to, want, found);
     state.with_wrong()
 }

@@ -3,7 +3,7 @@
 use edges::{CELLS, Cells, GUARD, bit, cells_of, first_of, place};
 use expand::Expanded;
 use interp::{Answer, Cursor, Outcome};
-use report::{say, say_number};
+use report::{Console, say, say_number};
 
 // CELLS itself is no place.
 pub const TAKEN: usize = 321;
@@ -92,25 +92,25 @@ pub fn is_manual(place: usize) -> bool {
     place >= 64 && place <= TAKEN && place != CELLS
 }
 
-fn say_cell(place: usize) {
+fn say_cell(to: Console, place: usize) {
     if place < 32 {
-        say(b"x");
-        say_number(place as u64);
+        say(to, b"x");
+        say_number(to, place as u64);
     } else if place < 64 {
-        say(b"cell ");
-        say_number(place as u64);
+        say(to, b"cell ");
+        say_number(to, place as u64);
     } else {
-        say(b"word ");
-        say_number(place as u64 - 64);
+        say(to, b"word ");
+        say_number(to, place as u64 - 64);
     }
 }
 
-pub fn say_name(place: usize) {
+pub fn say_name(to: Console, place: usize) {
     match place {
-        ROW => say(b"the next row"),
-        HALTED => say(b"halted"),
-        TAKEN => say(b"the branch (0 not taken, 1 taken, 2 none)"),
-        _ => say_cell(place),
+        ROW => say(to, b"the next row"),
+        HALTED => say(to, b"halted"),
+        TAKEN => say(to, b"the branch (0 not taken, 1 taken, 2 none)"),
+        _ => say_cell(to, place),
     }
 }
 

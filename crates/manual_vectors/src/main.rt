@@ -35,13 +35,16 @@ ghost use Rattle.std.specs.Prelude.{◌≤◌};
 use calls::{Line, is_line, place_of};
 use edges::{CELLS, Cells, cells_of, with_cell};
 use interp::Cursor;
-use libc::STDERR_FILENO;
 use machine::{
     HALTED, MAX_CASE_CYCLES, MAX_CASE_WORDS, Machine, Program, ROW, TAKEN, is_manual, say_name,
     words_of,
 };
-use report::{say, say_both, say_digits, say_place, say_value};
+use report::{Console, say, say_both, say_digits, say_place, say_value};
 use state::{Phase, State, give_up, say_total, wrong};
+use std::env::Env;
+use std::fs::File;
+use std::io::Print;
+use std::rt::Files;
 use text_lines::{Next, Text, Unread};
 
 // Results come after all cells: their order is AFTER and the place.
@@ -102,40 +105,47 @@ impl Run {
 
 // ---- comparing
 
-fn check_value(name: &[u8], state: State, place: usize, want: u64, found: u64) -> State {
+fn check_value(
+    to: Console,
+    name: &[u8],
+    state: State,
+    place: usize,
+    want: u64,
+    found: u64,
+) -> State {
     if want == found {
         return state;
     }
-    say_place(name, state.counts.lines);
-    say_name(place);
-    say_both(want, found);
+    say_place(to, name, state.counts.lines);
+    say_name(to, place);
+    say_both(to, want, found);
     state.with_counts(state.counts.with_wrong())
 }
 
 // Compares what an agreeing case leaves.
-fn check_after(name: &[u8], run: Run) -> State {
+fn check_after(to: Console, name: &[u8], run: Run) -> State {
     let want = run.want;
     let found = run.after();
     let mut state = run.state;
     for i in 0..=TAKEN {
         if is_manual(i) {
-            state = check_value(name, state, i, want.at(i), found.at(i));
+            state = check_value(to, name, state, i, want.at(i), found.at(i));
         }
     }
     state
 }
 
 // A case ends where the next one begins or the file ends.
-fn end_case(name: &[u8], run: Run) -> State {
+fn end_case(to: Console, name: &[u8], run: Run) -> State {
     let state = run.state;
     let phase = state.phase;
     match phase {
-        Phase::Word(_) => wrong(name, state, b"the case ends early"),
+        Phase::Word(_) => wrong(to, name, state, b"the case ends early"),
         Phase::Cell(_) => {
             if state.letter == b'a' {
-                return check_after(name, run);
+                return check_after(to, name, run);
             }
-            wrong(name, state, b"the case ends early")
+            wrong(to, name, state, b"the case ends early")
         }
         _ => state,
     }
@@ -143,63 +153,63 @@ fn end_case(name: &[u8], run: Run) -> State {
 
 // ---- the line of a difference
 
-fn say_word(word: u32) {
-    say_digits(word as u64, 8);
+fn say_word(to: Console, word: u32) {
+    say_digits(to, word as u64, 8);
 }
 
-fn say_words(words: &[u32]) {
+fn say_words(to: Console, words: &[u32]) {
     for i in 0..words.len() {
         if i > 0 {
-            say(b" ");
+            say(to, b" ");
         }
-        say_word(words[i]);
+        say_word(to, words[i]);
     }
 }
 
-fn say_link(first: bool) {
+fn say_link(to: Console, first: bool) {
     if first {
-        say(b" with ");
+        say(to, b" with ");
     } else {
-        say(b", ");
+        say(to, b", ");
     }
 }
 
 // Says the cells that are not 0.
-fn say_cells(cells: &Cells) {
+fn say_cells(to: Console, cells: &Cells) {
     let mut first = true;
     for i in 0..CELLS {
         if cells[i] != 0 {
-            say_link(first);
-            say_name(i);
-            say_value(b" ", cells[i]);
+            say_link(to, first);
+            say_name(to, i);
+            say_value(to, b" ", cells[i]);
             first = false;
         }
     }
 }
 
-fn say_manual(letter: u8, place: usize, manual: u64) {
+fn say_manual(to: Console, letter: u8, place: usize, manual: u64) {
     if letter == b'u' {
-        say(b", not defined in the manual\n");
+        say(to, b", not defined in the manual\n");
         return;
     }
     if place == ROW && manual == u64::MAX {
-        say(b", in the manual none\n");
+        say(to, b", in the manual none\n");
         return;
     }
-    say_value(b", in the manual ", manual);
-    say(b"\n");
+    say_value(to, b", in the manual ", manual);
+    say(to, b"\n");
 }
 
-fn say_difference(run: Run, said: Said) {
+fn say_difference(to: Console, run: Run, said: Said) {
     let state = run.state;
     let program = run.program;
     let cells = cells_of(run.start);
-    say_words(words_of(&program, state.words));
-    say_cells(&cells);
-    say(b": ");
-    say_name(said.place);
-    say_value(b" is ", said.value);
-    say_manual(state.letter, said.place, said.manual);
+    say_words(to, words_of(&program, state.words));
+    say_cells(to, &cells);
+    say(to, b": ");
+    say_name(to, said.place);
+    say_value(to, b" is ", said.value);
+    say_manual(to, state.letter, said.place, said.manual);
 }
 
 // ---- the lines. Sums and casts wrap where `is_case` or `is_word` has excluded it.
@@ -317,133 +327,137 @@ fn agreeing_line(line: Line, run: Run, from: usize) -> Run {
 }
 
 // Checks the result of another case, and says it.
-fn judge(name: &[u8], run: Run, said: Said) -> State {
+fn judge(to: Console, name: &[u8], run: Run, said: Said) -> State {
     let state = run.state.with_phase(Phase::Done);
     let found = run.after().at(said.place);
     if said.value != found {
-        return check_value(name, state, said.place, said.value, found);
+        return check_value(to, name, state, said.place, said.value, found);
     }
     if state.letter == b'd' && said.value == said.manual {
-        return wrong(name, state, b"no difference");
+        return wrong(to, name, state, b"no difference");
     }
-    say_difference(run, said);
+    say_difference(to, run, said);
     state
 }
 
 // Takes the result of another case, with so many numbers for the value.
-fn other_line(name: &[u8], line: Line, run: Run, numbers: usize) -> Run
+fn other_line(to: Console, name: &[u8], line: Line, run: Run, numbers: usize) -> Run
     requires { numbers ≤ 2 }
 {
     let said = said_of(line, numbers);
     if said.place == CELLS || said.place == TAKEN {
         return run.with_phase(Phase::Odd);
     }
-    run.with_state(judge(name, run, said))
+    run.with_state(judge(to, name, run, said))
 }
 
-fn result_line(name: &[u8], line: Line, run: Run, from: usize) -> Run {
+fn result_line(to: Console, name: &[u8], line: Line, run: Run, from: usize) -> Run {
     let letter = run.state.letter;
     match letter {
         b'a' => agreeing_line(line, run, from),
-        b'd' => other_line(name, line, run, 2),
-        _ => other_line(name, line, run, 1),
+        b'd' => other_line(to, name, line, run, 2),
+        _ => other_line(to, name, line, run, 1),
     }
 }
 
 // Takes a line behind the words.
-fn cell_line(name: &[u8], line: Line, run: Run, from: usize) -> Run {
+fn cell_line(to: Console, name: &[u8], line: Line, run: Run, from: usize) -> Run {
     let letter = line.letter;
     match letter {
         b'x' | b'm' => before_line(line, run, from),
-        _ => result_line(name, line, run, from),
+        _ => result_line(to, name, line, run, from),
     }
 }
 
 // Takes a line that begins no case.
-fn inner_line(name: &[u8], line: Line, run: Run) -> Run {
+fn inner_line(to: Console, name: &[u8], line: Line, run: Run) -> Run {
     let state = run.state;
     let phase = state.phase;
     match phase {
         Phase::Passed => run.with_state(state.with_counts(state.counts.with_passed())),
         Phase::Word(i) => word_line(line, run, i),
-        Phase::Cell(from) => cell_line(name, line, run, from),
+        Phase::Cell(from) => cell_line(to, name, line, run, from),
         _ => run.with_phase(Phase::Odd),
     }
 }
 
-fn any_line(name: &[u8], line: Line, run: Run) -> Run {
+fn any_line(to: Console, name: &[u8], line: Line, run: Run) -> Run {
     let letter = line.letter;
     match letter {
-        b'a' | b'd' | b'u' => case_line(line, end_case(name, run).with_line()),
-        _ => inner_line(name, line, run.with_state(run.state.with_line())),
+        b'a' | b'd' | b'u' => case_line(line, end_case(to, name, run).with_line()),
+        _ => inner_line(to, name, line, run.with_state(run.state.with_line())),
     }
 }
 
 // Takes a line, and gives the case up where it cannot stand here.
-fn check_line(name: &[u8], line: Line, run: Run) -> Run {
-    let next = any_line(name, line, run);
+fn check_line(to: Console, name: &[u8], line: Line, run: Run) -> Run {
+    let next = any_line(to, name, line, run);
     let state = next.state;
     let phase = state.phase;
     match phase {
-        Phase::Odd => next.with_state(give_up(name, state)),
+        Phase::Odd => next.with_state(give_up(to, name, state)),
         _ => next,
     }
 }
 
 // Says how a file ends.
-fn end_file(name: &[u8], run: Run, next: Next) {
+fn end_file(to: Console, name: &[u8], run: Run, next: Next) {
     let last = run.state.with_line();
     match next {
-        Next::Failed => {
-            os::fail(name);
+        Next::Failed(why) => {
+            input::fail(to.err, name, why);
         }
-        Next::Cut => say_total(name, wrong(name, last, b"cut short")),
-        Next::Long => say_total(name, wrong(name, last, b"too long to be read")),
-        _ => say_total(name, end_case(name, run)),
+        Next::Cut => say_total(to, name, wrong(to, name, last, b"cut short")),
+        Next::Long => say_total(to, name, wrong(to, name, last, b"too long to be read")),
+        _ => say_total(to, name, end_case(to, name, run)),
     }
 }
 
 // A proved loop has to end, and nothing says that a file does. So the loop counts its turns down,
 // from a number that no run uses up.
-fn check_lines(fd: i32, name: &[u8], text: &mut Text) {
+fn check_lines(to: Console, file: &mut File, name: &[u8], text: &mut Text) {
     let mut run = Run::none();
     let mut unread = Unread::none();
     let mut turns = u64::MAX;
     while turns > 0 {
         turns -= 1;
-        let taken = calls::take_line(fd, text, unread);
+        let taken = calls::take_line(file, text, unread);
         unread = taken.unread;
         let next = taken.next;
         match next {
             Next::Line => {
-                run = check_line(name, taken.line, run);
+                run = check_line(to, name, taken.line, run);
             }
             _ => {
-                end_file(name, run, next);
+                end_file(to, name, run, next);
                 return;
             }
         }
     }
 }
 
-fn check_argument(i: usize) {
-    let mut path = io::buffer();
-    let mut text = io::large_buffer();
-    let file = input::open_argument(i, &mut path);
-    let n = file.length;
-    if file.fd >= 0 {
-        check_lines(file.fd, &path[..n], &mut text);
-        libc::close(file.fd);
+fn check_argument<R: Env + Files<File = File>>(rt: &R, to: Console, i: usize) {
+    let mut path = [0u8; 4096];
+    let mut text = [0u8; 65536];
+    let list = input::open_argument(rt, to.err, i, &mut path);
+    let n = list.length;
+    if let Some(mut file) = list.file {
+        check_lines(to, &mut file, &path[..n], &mut text);
     }
 }
 
-fn main() {
-    let count = os::arg_count();
+fn main(rt: HostRuntime) {
+    let to = Console {
+        out: rt.stdout(),
+        err: rt.stderr(),
+    };
+    let count = input::argument_count(&rt);
     if count < 2 {
-        io::write_all(STDERR_FILENO, b"usage: manual_vectors LIST..\n");
+        // There is no place to tell that this fails.
+        let _ = to.err.write_all(b"usage: manual_vectors LIST..\n");
         return;
     }
     for i in 1..count {
-        check_argument(i);
+        check_argument(&rt, to, i);
     }
 }

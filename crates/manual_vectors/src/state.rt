@@ -1,5 +1,5 @@
 // Where the replay of a file stands.
-use report::{Counts, one_more, say, say_count, say_counts};
+use report::{Console, Counts, one_more, say, say_count, say_counts};
 
 // What the next line is to be.
 #[derive(Clone, Copy)]
@@ -82,22 +82,27 @@ impl State {
     }
 }
 
-pub fn say_total(name: &[u8], state: State) {
-    say(name);
-    say(b": ");
-    say_count(state.agreeing, b" agreeing, ");
-    say_count(state.differing, b" differing, ");
-    say_count(state.undefined, b" undefined, ");
-    say_counts(state.counts);
+pub fn say_total(to: Console, name: &[u8], state: State) {
+    say(to, name);
+    say(to, b": ");
+    say_count(to, state.agreeing, b" agreeing, ");
+    say_count(to, state.differing, b" differing, ");
+    say_count(to, state.undefined, b" undefined, ");
+    say_counts(to, state.counts);
 }
 
 // Says what is wrong with the last line.
-pub fn wrong(name: &[u8], state: State, what: &[u8]) -> State {
-    state.with_counts(report::wrong(name, state.counts, what))
+pub fn wrong(to: Console, name: &[u8], state: State, what: &[u8]) -> State {
+    state.with_counts(report::wrong(to, name, state.counts, what))
 }
 
 // The same of a line that ends the run of its case.
-pub fn give_up(name: &[u8], state: State) -> State {
-    let after = wrong(name, state, b"of another form, out of order, or no change");
+pub fn give_up(to: Console, name: &[u8], state: State) -> State {
+    let after = wrong(
+        to,
+        name,
+        state,
+        b"of another form, out of order, or no change",
+    );
     after.with_phase(Phase::Passed)
 }
