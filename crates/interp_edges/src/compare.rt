@@ -4,7 +4,7 @@ ghost use Rattle.std.specs.Prelude.{◌≤◌, ◌<◌};
 
 use edges::{GUARD, bit, number_of, say_differs, say_wrong};
 use interp::{Answer, Cursor};
-use report::{say, say_number};
+use report::{Console, say, say_number};
 
 pub(crate) const PLACES: usize = 160;
 
@@ -19,10 +19,10 @@ pub(crate) enum Kind {
     Padding,
 }
 
-fn say_kind(kind: Kind) {
+fn say_kind(to: Console, kind: Kind) {
     match kind {
-        Kind::Segment => say(b"segment, "),
-        Kind::Padding => say(b"padding, "),
+        Kind::Segment => say(to, b"segment, "),
+        Kind::Padding => say(to, b"padding, "),
     }
 }
 
@@ -34,55 +34,56 @@ fn call(kind: Kind, rows: &[u64], cursor: Cursor, n: u64, records: &mut [u64]) -
 }
 
 // It takes arrays, so that `check` does not have to prove their lengths.
-fn say_places(want: &Places, found: &Places) -> bool {
-    say_differs(b"place ", want, GUARD, found)
+fn say_places(to: Console, want: &Places, found: &Places) -> bool {
+    say_differs(to, b"place ", want, GUARD, found)
 }
 
-fn say_cells(want: Cursor, found: Cursor) -> bool {
+fn say_cells(to: Console, want: Cursor, found: Cursor) -> bool {
     let want_regs = want.regs;
     let found_regs = found.regs;
     let want_ram = want.ram;
     let found_ram = found.ram;
-    let regs = say_differs(b"register ", &want_regs, 0, &found_regs);
-    let ram = say_differs(b"RAM word ", &want_ram, 0, &found_ram);
+    let regs = say_differs(to, b"register ", &want_regs, 0, &found_regs);
+    let ram = say_differs(to, b"RAM word ", &want_ram, 0, &found_ram);
     regs && ram
 }
 
-fn say_numbers(want: Cursor, found: Cursor) -> bool {
+fn say_numbers(to: Console, want: Cursor, found: Cursor) -> bool {
     let want_pc = want.micro_pc.0 as u64;
     let found_pc = found.micro_pc.0 as u64;
     let want_fetch = want.next_fetch.0 as u64;
     let found_fetch = found.next_fetch.0 as u64;
-    let pc = say_wrong(b"micro_pc ", want_pc, found_pc);
-    let cycles = say_wrong(b"cycles ", want.cycles, found.cycles);
-    let halted = say_wrong(b"halted ", bit(want.halted), bit(found.halted));
-    let output = say_wrong(b"output ", want.output, found.output);
-    let fetch = say_wrong(b"next_fetch ", want_fetch, found_fetch);
+    let pc = say_wrong(to, b"micro_pc ", want_pc, found_pc);
+    let cycles = say_wrong(to, b"cycles ", want.cycles, found.cycles);
+    let halted = say_wrong(to, b"halted ", bit(want.halted), bit(found.halted));
+    let output = say_wrong(to, b"output ", want.output, found.output);
+    let fetch = say_wrong(to, b"next_fetch ", want_fetch, found_fetch);
     pc && cycles && halted && output && fetch
 }
 
 // A refused call keeps what an accepted one changes.
-fn say_right(what: &[u8], number: u64) {
-    say(what);
+fn say_right(to: Console, what: &[u8], number: u64) {
+    say(to, what);
     if number == 0 {
-        say(b" right");
+        say(to, b" right");
     } else {
-        say(b" kept");
+        say(to, b" kept");
     }
 }
 
-fn say_compared(number: u64, places: bool, cursor: bool) {
+fn say_compared(to: Console, number: u64, places: bool, cursor: bool) {
     if places {
-        say_right(b", buffer", number);
+        say_right(to, b", buffer", number);
     }
     if cursor {
-        say_right(b", cursor", number);
+        say_right(to, b", cursor", number);
     }
-    say(b"\n");
+    say(to, b"\n");
 }
 
 // Runs a call that is lent the first `room` places of a buffer. Answers the cursor that it returns.
 pub(crate) fn check(
+    to: Console,
     name: &[u8],
     kind: Kind,
     rows: &[u64],
@@ -100,15 +101,15 @@ pub(crate) fn check(
     let outcome = answer.outcome;
     let found = answer.cursor;
     let returned = number_of(outcome);
-    say_kind(kind);
-    say(name);
-    say(b": ");
-    say_number(returned);
-    say_wrong(b"number ", number, returned);
-    let buffer = say_places(places, &records);
-    let cells = say_cells(want, found);
-    let numbers = say_numbers(want, found);
-    say_compared(number, buffer, cells && numbers);
+    say_kind(to, kind);
+    say(to, name);
+    say(to, b": ");
+    say_number(to, returned);
+    say_wrong(to, b"number ", number, returned);
+    let buffer = say_places(to, places, &records);
+    let cells = say_cells(to, want, found);
+    let numbers = say_numbers(to, want, found);
+    say_compared(to, number, buffer, cells && numbers);
     found
 }
 
@@ -129,6 +130,7 @@ pub(crate) fn put(places: &mut Places, i: usize, record: &Record)
 // A call that is refused with a number, and keeps the cursor and the buffer; or that is accepted with
 // length 0.
 pub(crate) fn keeps(
+    to: Console,
     name: &[u8],
     kind: Kind,
     rows: &[u64],
@@ -140,19 +142,28 @@ pub(crate) fn keeps(
     requires { room ≤ 160 }
 {
     let none = no_record();
-    check(name, kind, rows, cursor, n, room, number, &none, cursor);
+    check(to, name, kind, rows, cursor, n, room, number, &none, cursor);
 }
 
 // Both calls, likewise.
-pub(crate) fn both_keep(name: &[u8], rows: &[u64], cursor: Cursor, n: u64, room: usize, number: u64)
+pub(crate) fn both_keep(
+    to: Console,
+    name: &[u8],
+    rows: &[u64],
+    cursor: Cursor,
+    n: u64,
+    room: usize,
+    number: u64,
+)
     requires { room ≤ 160 }
 {
-    keeps(name, Kind::Segment, rows, cursor, n, room, number);
-    keeps(name, Kind::Padding, rows, cursor, n, room, number);
+    keeps(to, name, Kind::Segment, rows, cursor, n, room, number);
+    keeps(to, name, Kind::Padding, rows, cursor, n, room, number);
 }
 
 // A call of one cycle that is lent exactly the words of its record.
 pub(crate) fn one(
+    to: Console,
     name: &[u8],
     kind: Kind,
     rows: &[u64],
@@ -162,11 +173,12 @@ pub(crate) fn one(
 ) -> Cursor {
     let mut places = no_record();
     put(&mut places, 0, &record);
-    check(name, kind, rows, cursor, 1, 17, 0, &places, want)
+    check(to, name, kind, rows, cursor, 1, 17, 0, &places, want)
 }
 
 // A call of two cycles, likewise.
 pub(crate) fn two(
+    to: Console,
     name: &[u8],
     kind: Kind,
     rows: &[u64],
@@ -178,5 +190,5 @@ pub(crate) fn two(
     let mut places = no_record();
     put(&mut places, 0, &first);
     put(&mut places, 1, &second);
-    check(name, kind, rows, cursor, 2, 34, 0, &places, want)
+    check(to, name, kind, rows, cursor, 2, 34, 0, &places, want)
 }
