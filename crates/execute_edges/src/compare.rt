@@ -2,7 +2,7 @@
 // guard word before a call; afterwards all places, the counts and the whole cursor are compared.
 use edges::{GUARD, bit, number_of, say_differs};
 use interp::{Cursor, Execution};
-use report::{say, say_number};
+use report::{Console, say, say_number};
 
 const PLACES: usize = 160;
 
@@ -97,73 +97,74 @@ fn call(
 
 // ---- what is said
 
-fn say_part(i: usize) {
+fn say_part(to: Console, i: usize) {
     match i {
-        0 => say(b"number "),
-        1 => say(b"live "),
-        2 => say(b"records "),
-        3 => say(b"micro_pc "),
-        4 => say(b"cycles "),
-        5 => say(b"halted "),
-        6 => say(b"output "),
-        _ => say(b"next_fetch "),
+        0 => say(to, b"number "),
+        1 => say(to, b"live "),
+        2 => say(to, b"records "),
+        3 => say(to, b"micro_pc "),
+        4 => say(to, b"cycles "),
+        5 => say(to, b"halted "),
+        6 => say(to, b"output "),
+        _ => say(to, b"next_fetch "),
     }
 }
 
-fn say_found(i: usize, want: u64, found: u64) {
-    say(b", ");
+fn say_found(to: Console, i: usize, want: u64, found: u64) {
+    say(to, b", ");
     if want != found {
-        say(b"WRONG ");
+        say(to, b"WRONG ");
     }
-    say_part(i);
-    say_number(found);
+    say_part(to, i);
+    say_number(to, found);
 }
 
-fn say_numbers(want: &Numbers, found: &Numbers) {
+fn say_numbers(to: Console, want: &Numbers, found: &Numbers) {
     for i in 0..8 {
-        say_found(i, want[i], found[i]);
+        say_found(to, i, want[i], found[i]);
     }
 }
 
-fn say_list(what: &[u8], want: &[u64], rest: u64, found: &[u64]) {
-    if say_differs(what, want, rest, found) {
-        say(b", ");
-        say(what);
-        say(b"right");
+fn say_list(to: Console, what: &[u8], want: &[u64], rest: u64, found: &[u64]) {
+    if say_differs(to, what, want, rest, found) {
+        say(to, b", ");
+        say(to, what);
+        say(to, b"right");
     }
 }
 
-fn say_head(name: &[u8], input: usize, max_cycles: u64, room: usize) {
-    say(name);
-    say(b", input ");
-    say_number(input as u64);
-    say(b", max ");
-    say_number(max_cycles);
-    say(b", ");
-    say_number(room as u64);
-    say(b" words");
+fn say_head(to: Console, name: &[u8], input: usize, max_cycles: u64, room: usize) {
+    say(to, name);
+    say(to, b", input ");
+    say_number(to, input as u64);
+    say(to, b", max ");
+    say_number(to, max_cycles);
+    say(to, b", ");
+    say_number(to, room as u64);
+    say(to, b" words");
 }
 
 // The next three take arrays, so that `check` does not have to prove their lengths.
-fn say_registers(cells: &[Cell], found: &Registers) {
+fn say_registers(to: Console, cells: &[Cell], found: &Registers) {
     let want = registers(cells);
-    say_list(b"registers ", &want, 0, found);
+    say_list(to, b"registers ", &want, 0, found);
 }
 
-fn say_ram(want: &[u64], found: &Ram) {
-    say_list(b"RAM ", want, 0, found);
+fn say_ram(to: Console, want: &[u64], found: &Ram) {
+    say_list(to, b"RAM ", want, 0, found);
 }
 
-fn say_places(records: &[Record], found: &Places) {
+fn say_places(to: Console, records: &[Record], found: &Places) {
     let want = places_of(records);
-    say_list(b"buffer ", &want, GUARD, found);
-    say(b"\n");
+    say_list(to, b"buffer ", &want, GUARD, found);
+    say(to, b"\n");
 }
 
 // Runs execute, which is lent the first `room` places of a buffer. Registers other than `cells` are
 // expected to be 0, RAM to be `ram` and 0 past it, the buffer to hold `records` and past them what it
 // held before.
 pub fn check(
+    to: Console,
     name: &[u8],
     rows: &[u64],
     input: &[u64],
@@ -174,9 +175,9 @@ pub fn check(
     records: &[Record],
 ) {
     let room = length[1] as usize;
-    say_head(name, input.len(), length[0], room);
+    say_head(to, name, input.len(), length[0], room);
     if PLACES < room {
-        say(b", WRONG room\n");
+        say(to, b", WRONG room\n");
         return;
     }
     let mut places = [GUARD; PLACES];
@@ -190,14 +191,15 @@ pub fn check(
         &mut found_regs,
         &mut found_ram,
     );
-    say_numbers(want, &found);
-    say_registers(cells, &found_regs);
-    say_ram(ram, &found_ram);
-    say_places(records, &places);
+    say_numbers(to, want, &found);
+    say_registers(to, cells, &found_regs);
+    say_ram(to, ram, &found_ram);
+    say_places(to, records, &places);
 }
 
 // Calls that give the same answer.
 fn check_each(
+    to: Console,
     name: &[u8],
     rows: &[u64],
     input: &[u64],
@@ -209,7 +211,9 @@ fn check_each(
     let none = [0u64; 0];
     let mut i = 0;
     while i < lengths.len() {
-        check(name, rows, input, lengths[i], want, cells, &none, records);
+        check(
+            to, name, rows, input, lengths[i], want, cells, &none, records,
+        );
         i += 1;
     }
 }
@@ -217,6 +221,7 @@ fn check_each(
 // Such calls without input, on a program that leaves RAM as it was. `[[0, 0]]` says that no register
 // is set.
 pub fn runs(
+    to: Console,
     name: &[u8],
     rows: &[u64],
     lengths: &[Length],
@@ -225,15 +230,15 @@ pub fn runs(
     records: &[Record],
 ) {
     let none = [0u64; 0];
-    check_each(name, rows, &none, lengths, &want, cells, records);
+    check_each(to, name, rows, &none, lengths, &want, cells, records);
 }
 
 // Refused calls: in spite of the input the whole cursor is 0, both counts are 0, and the whole buffer
 // is as it was.
-pub fn refuses(name: &[u8], rows: &[u64], lengths: &[Length], number: u64) {
+pub fn refuses(to: Console, name: &[u8], rows: &[u64], lengths: &[Length], number: u64) {
     let input = [7u64; 3];
     let cells = [[0u64; 2]; 0];
     let records = [[0u64; 17]; 0];
     let want = [number, 0, 0, 0, 0, 0, 0, 0];
-    check_each(name, rows, &input, lengths, &want, &cells, &records);
+    check_each(to, name, rows, &input, lengths, &want, &cells, &records);
 }

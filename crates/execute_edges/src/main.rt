@@ -7,6 +7,7 @@ mod compare;
 mod sameness;
 
 use compare::{Record, check, refuses, runs};
+use report::Console;
 
 // The most cycles of execute.
 const MAX_EXECUTE_CYCLES: u64 = 0x1_0000_0000;
@@ -56,7 +57,7 @@ const STAGE5: u64 = 0x5_0020_91b3;
 // ---- M1
 
 // Exactly the words that execute asks for, and more.
-fn run_example() {
+fn run_example(to: Console) {
     let rows = M1;
     let lengths = [
         [8, 136],
@@ -71,15 +72,16 @@ fn run_example() {
     ];
     let want = [0, 2, 2, 1, 2, 1, 5, 1];
     let cells = [[10, 5], [32, 5]];
-    runs(b"M1", &rows, &lengths, want, &cells, &[FIRST, SECOND]);
+    runs(to, b"M1", &rows, &lengths, want, &cells, &[FIRST, SECOND]);
 }
 
 // M9, a padding record before the first cycle; and the first cycle alone.
-fn run_beginning() {
+fn run_beginning(to: Console) {
     let rows = M1;
     let latch = [0, 0, 0, 0, 0, 10, 0, 0, 0, 0, 0, 0, 0, 0, 0, 0, HLT];
     let want = [0, 0, 1, 0, 0, 0, 0, 0];
     runs(
+        to,
         b"M9",
         &rows,
         &[[0, 17], [0, 160]],
@@ -89,6 +91,7 @@ fn run_beginning() {
     );
     let want = [0, 1, 1, 1, 1, 0, 0, 1];
     runs(
+        to,
         b"M1",
         &rows,
         &[[1, 17], [1, 160]],
@@ -100,10 +103,11 @@ fn run_beginning() {
 
 // ---- machines that do not halt
 
-fn jumps(max_cycles: u64, room: u64, count: u64, records: &[Record]) {
+fn jumps(to: Console, max_cycles: u64, room: u64, count: u64, records: &[Record]) {
     let rows = [LOOP];
     let want = [0, max_cycles, count, 0, max_cycles, 0, 0, 0];
     runs(
+        to,
         b"0x0000006f",
         &rows,
         &[[max_cycles, room]],
@@ -113,29 +117,30 @@ fn jumps(max_cycles: u64, room: u64, count: u64, records: &[Record]) {
     );
 }
 
-fn run_endless() {
+fn run_endless(to: Console) {
     let jump = JUMP;
     let latch = LATCH;
-    jumps(0, 17, 1, &[latch]);
-    jumps(1, 17, 1, &[jump]);
-    jumps(3, 68, 4, &[jump, jump, jump, latch]);
-    jumps(4, 68, 4, &[jump; 4]);
+    jumps(to, 0, 17, 1, &[latch]);
+    jumps(to, 1, 17, 1, &[jump]);
+    jumps(to, 3, 68, 4, &[jump, jump, jump, latch]);
+    jumps(to, 4, 68, 4, &[jump; 4]);
     let five = [jump, jump, jump, jump, jump, latch, latch, latch];
-    jumps(5, 136, 8, &five);
-    jumps(8, 136, 8, &[jump; 8]);
+    jumps(to, 5, 136, 8, &five);
+    jumps(to, 8, 136, 8, &[jump; 8]);
 }
 
 // addi x1,x1,1 alone, whose next row is itself: padding writes the output, 0, into x1.
-fn run_counter() {
+fn run_counter(to: Console) {
     let rows = [0x0010_8093];
     let a = [0, 0, 0, 1, 0, 1, 0, 0, 0, 0, 0, 0, 0, 1, 1, 0, ADD];
     let b = [0, 1, 1, 2, 1, 1, 0, 0, 0, 0, 0, 0, 1, 1, 2, 0, ADD];
     let c = [0, 2, 2, 3, 2, 1, 0, 0, 0, 0, 0, 0, 2, 1, 3, 0, ADD];
     let pad = [0, 3, 3, 0, 3, 1, 0, 0, 0, 0, 0, 0, 0, 0, 0, 0, HLT];
     let want = [0, 2, 2, 0, 2, 0, 0, 0];
-    runs(b"x1 + 1", &rows, &[[2, 34]], want, &[[1, 2]], &[a, b]);
+    runs(to, b"x1 + 1", &rows, &[[2, 34]], want, &[[1, 2]], &[a, b]);
     let want = [0, 3, 4, 0, 3, 0, 0, 0];
     runs(
+        to,
         b"x1 + 1",
         &rows,
         &[[3, 68]],
@@ -148,17 +153,33 @@ fn run_counter() {
 // ---- machines that halt
 
 // A System row's record and the padding record are the same here.
-fn run_halt() {
+fn run_halt(to: Console) {
     let rows = [ECALL];
     let want = [0, 0, 1, 0, 0, 0, 0, 0];
-    runs(b"0x00000073", &rows, &[[0, 17]], want, &[[0, 0]], &[LATCH]);
+    runs(
+        to,
+        b"0x00000073",
+        &rows,
+        &[[0, 17]],
+        want,
+        &[[0, 0]],
+        &[LATCH],
+    );
     let lengths = [[1, 17], [2, 34], [8, 136]];
     let want = [0, 1, 1, 0, 1, 1, 0, 0];
-    runs(b"0x00000073", &rows, &lengths, want, &[[0, 0]], &[LATCH]);
+    runs(
+        to,
+        b"0x00000073",
+        &rows,
+        &lengths,
+        want,
+        &[[0, 0]],
+        &[LATCH],
+    );
 }
 
 // addi x10,x10,1 four times, and ecall: 5 live cycles, and three of padding.
-fn run_five() {
+fn run_five(to: Console) {
     let rows = [0x0015_0513, 0x0015_0513, 0x0015_0513, 0x0015_0513, ECALL];
     let a = [0, 0, 0, 1, 0, 10, 0, 0, 0, 0, 0, 1, 0, 1, 1, 0, ADD];
     let b = [1, 1, 0, 2, 1, 10, 0, 0, 0, 0, 0, 2, 1, 1, 2, 0, ADD];
@@ -168,6 +189,7 @@ fn run_five() {
     let pad = [4, 4, 0, 4, 4, 32, 0, 0, 0, 0, 0, 4, 0, 0, 0, 0, HLT];
     let want = [0, 4, 4, 4, 4, 0, 0, 4];
     runs(
+        to,
         b"4 of 5",
         &rows,
         &[[4, 68]],
@@ -179,7 +201,7 @@ fn run_five() {
     let want = [0, 5, 8, 4, 5, 1, 4, 4];
     let cells = [[10, 4], [32, 4]];
     let records = [a, b, c, d, halt, pad, pad, pad];
-    runs(b"5 of 5", &rows, &lengths, want, &cells, &records);
+    runs(to, b"5 of 5", &rows, &lengths, want, &cells, &records);
 }
 
 // ---- the input and RAM
@@ -193,13 +215,14 @@ fn input_words() -> [u64; 300] {
 }
 
 // ld x10,2040(x0) and ecall: RAM word 255, here z, is the output; ecall's record shows RAM word 0, a.
-fn loads(input: &[u64], ram: &[u64], a: u64, z: u64) {
+fn loads(to: Console, input: &[u64], ram: &[u64], a: u64, z: u64) {
     let rows = [0x7f80_3503, ECALL];
     let load = [0, 0, 0, z, 0, 10, 255, z, 0, 0, 0, 1, 0, 2040, 2040, 0, LD];
     let halt = [1, z, 0, z, 0, 32, 0, a, 0, 0, 0, 1, z, 0, z, 0, HLT];
     let want = [0, 2, 2, 1, 2, 1, z, 1];
     let cells = [[10, z], [32, z]];
     check(
+        to,
         b"load",
         &rows,
         input,
@@ -212,28 +235,28 @@ fn loads(input: &[u64], ram: &[u64], a: u64, z: u64) {
 }
 
 // The first `n` of these words are the input, and the first `m` of them are RAM.
-fn loads_of(words: &[u64], n: usize, m: usize, a: u64, z: u64) {
+fn loads_of(to: Console, words: &[u64], n: usize, m: usize, a: u64, z: u64) {
     if words.len() < n {
         return;
     }
     if words.len() < m {
         return;
     }
-    loads(&words[0..n], &words[0..m], a, z);
+    loads(to, &words[0..n], &words[0..m], a, z);
 }
 
-fn run_input() {
+fn run_input(to: Console) {
     let words = input_words();
-    loads_of(&words, 0, 0, 0, 0);
-    loads_of(&words, 1, 1, 1000, 0);
-    loads_of(&words, 255, 255, 1000, 0);
-    loads_of(&words, 256, 256, 1000, 1255);
-    loads_of(&words, 257, 256, 1000, 1255);
-    loads_of(&words, 300, 256, 1000, 1255);
+    loads_of(to, &words, 0, 0, 0, 0);
+    loads_of(to, &words, 1, 1, 1000, 0);
+    loads_of(to, &words, 255, 255, 1000, 0);
+    loads_of(to, &words, 256, 256, 1000, 1255);
+    loads_of(to, &words, 257, 256, 1000, 1255);
+    loads_of(to, &words, 300, 256, 1000, 1255);
 }
 
 // addi x1,x0,5; sd x1,16(x0); ecall. Records show RAM word 0, that of the store word 2.
-fn run_store() {
+fn run_store(to: Console) {
     let rows = [0x0050_0093, 0x0010_3823, ECALL];
     let add = [0, 0, 0, 5, 0, 1, 0, 7, 0, 0, 0, 1, 0, 5, 5, 0, ADD];
     let store = [1, 0, 5, 0, 0, 32, 2, 0, 0, 5, 5, 2, 0, 16, 16, 0, STORE];
@@ -242,6 +265,7 @@ fn run_store() {
     let records = [add, store, halt, halt];
     let ram = [7, 0, 5];
     check(
+        to,
         b"store",
         &rows,
         &[7],
@@ -256,7 +280,7 @@ fn run_store() {
 // ---- a register shift
 
 // max_cycles ends inside its six rows.
-fn run_cut_shift() {
+fn run_cut_shift(to: Console) {
     let rows = [STAGE0, STAGE1, STAGE2, STAGE3, STAGE4, STAGE5];
     let records = [
         [0, 0, 0, 0, 0, 32, 0, 0, 0, 0, 0, 1, 0, 0, 0, 0, 0],
@@ -265,12 +289,12 @@ fn run_cut_shift() {
         [3, 0, 0, 0, 0, 32, 0, 0, 0, 0, 0, 3, 0, 0, 0, 0, HLT],
     ];
     let want = [0, 3, 4, 3, 3, 0, 0, 3];
-    runs(b"shift", &rows, &[[3, 68]], want, &[[0, 0]], &records);
+    runs(to, b"shift", &rows, &[[3, 68]], want, &[[0, 0]], &records);
 }
 
 // addi x1,x0,1; addi x2,x0,3; the shift, which is M5. After three of its rows, and after all: the row
 // after the last is row 0.
-fn run_shift() {
+fn run_shift(to: Console) {
     let rows = [
         0x0010_0093,
         0x0030_0113,
@@ -293,32 +317,32 @@ fn run_shift() {
     let want = [0, 5, 8, 5, 5, 0, 0, 5];
     let cells = [[0, 8], [1, 1], [2, 3]];
     let records = [one, three, a, b, c, pad, pad, pad];
-    runs(b"M5 cut", &rows, &[[5, 136]], want, &cells, &records);
+    runs(to, b"M5 cut", &rows, &[[5, 136]], want, &cells, &records);
     let want = [0, 8, 8, 0, 8, 0, 0, 0];
     let cells = [[0, 8], [1, 1], [2, 3], [3, 8]];
     let records = [one, three, a, b, c, d, e, f];
-    runs(b"M5", &rows, &[[8, 136]], want, &cells, &records);
+    runs(to, b"M5", &rows, &[[8, 136]], want, &cells, &records);
 }
 
 // ---- refusals
 
-fn no_expansion(name: &[u8], rows: &[u64]) {
-    refuses(name, rows, &[[8, 136]], 3);
+fn no_expansion(to: Console, name: &[u8], rows: &[u64]) {
+    refuses(to, name, rows, &[[8, 136]], 3);
 }
 
-fn run_damaged() {
+fn run_damaged(to: Console) {
     let later = [FIVE, ECALL, STAGE1];
-    no_expansion(b"stage 1 alone", &later);
+    no_expansion(to, b"stage 1 alone", &later);
     let first = [FIVE, STAGE0, ECALL];
-    no_expansion(b"stage 0 alone", &first);
+    no_expansion(to, b"stage 0 alone", &first);
     let cut = [FIVE, STAGE0, STAGE1, STAGE2, STAGE3, STAGE4];
-    no_expansion(b"stage 5 cut off", &cut);
+    no_expansion(to, b"stage 5 cut off", &cut);
     let upper = [0x1_0050_0513, ECALL];
-    no_expansion(b"33 bits", &upper);
+    no_expansion(to, b"33 bits", &upper);
 }
 
 // The lowest number of those that are met: 1, 5 and 6; 3, 5 and 6.
-fn run_several() {
+fn run_several(to: Console) {
     let none = [0u64; 0];
     let damaged = [FIVE, STAGE1];
     let lengths = [
@@ -328,12 +352,12 @@ fn run_several() {
         [MAX_EXECUTE_CYCLES + 1, 160],
         [u64::MAX, 0],
     ];
-    refuses(b"no rows", &none, &lengths, 1);
-    refuses(b"damaged rows", &damaged, &lengths, 3);
+    refuses(to, b"no rows", &none, &lengths, 1);
+    refuses(to, b"damaged rows", &damaged, &lengths, 3);
 }
 
 // 5, also with 6.
-fn run_lengths() {
+fn run_lengths(to: Console) {
     let rows = M1;
     let long = [
         [MAX_EXECUTE_CYCLES + 1, 160],
@@ -341,12 +365,12 @@ fn run_lengths() {
         [u64::MAX, 160],
         [u64::MAX, 0],
     ];
-    refuses(b"M1", &rows, &long, 5);
+    refuses(to, b"M1", &rows, &long, 5);
 }
 
 // One word less than is asked for; room for M1's two records, but not for max_cycles; and the most
 // cycles, which ask for 17 * 2^32 words.
-fn run_short() {
+fn run_short(to: Console) {
     let rows = M1;
     let one = [
         [0, 16],
@@ -357,7 +381,7 @@ fn run_short() {
         [5, 135],
         [8, 135],
     ];
-    refuses(b"M1", &rows, &one, 6);
+    refuses(to, b"M1", &rows, &one, 6);
     let more = [
         [0, 0],
         [3, 34],
@@ -366,23 +390,27 @@ fn run_short() {
         [MAX_EXECUTE_CYCLES, 0],
         [MAX_EXECUTE_CYCLES, 160],
     ];
-    refuses(b"M1", &rows, &more, 6);
+    refuses(to, b"M1", &rows, &more, 6);
 }
 
-fn main() {
-    run_example();
-    run_beginning();
-    run_endless();
-    run_counter();
-    run_halt();
-    run_five();
-    run_input();
-    run_store();
-    run_cut_shift();
-    run_shift();
-    run_damaged();
-    run_several();
-    run_lengths();
-    run_short();
-    sameness::run();
+fn main(rt: HostRuntime) {
+    let to = Console {
+        out: rt.stdout(),
+        err: rt.stderr(),
+    };
+    run_example(to);
+    run_beginning(to);
+    run_endless(to);
+    run_counter(to);
+    run_halt(to);
+    run_five(to);
+    run_input(to);
+    run_store(to);
+    run_cut_shift(to);
+    run_shift(to);
+    run_damaged(to);
+    run_several(to);
+    run_lengths(to);
+    run_short(to);
+    sameness::run(to);
 }
