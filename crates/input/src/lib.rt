@@ -52,7 +52,7 @@ fn read_once<R: Read>(reader: &mut R, buf: &mut [u8]) -> Filled
 }
 
 // Reads until `buf` is full, the input ends or a read fails. Of a reader whose bytes are known, these
-// stand in `buf`, and fewer than it holds come only at the end or where a read failed.
+// stand in `buf`, and where no failed read is told, fewer than it holds come only at their end.
 pub fn fill<R: Read>(reader: &mut R, buf: &mut [u8]) -> Filled
     ensures prefix_len { IsPrefixLen result.count buf.new }
     ensures bytes { Consumes (R.remaining reader.old) (R.remaining reader.new) (take result.count buf.new) }

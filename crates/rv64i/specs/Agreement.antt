@@ -105,7 +105,7 @@ module _ (rows : List ℕ) (inst : ℕ) (c : Cursor) where
     pub rs2_val : shown.rs2_val ≡ x_rs2 inst s
     pub shows : Shows shown (x_rs1 inst s) (x_rs2 inst s) v
 
-  -- ADDI XORI ORI ANDI SLTI SLTIU, SLLI SRLI SRAI: the second operand is the immediate_i, of which a shift takes its low six bits
+  -- ADDI XORI ORI ANDI SLTI SLTIU, SLLI SRLI SRAI: the second operand is the I-immediate, of which a shift takes its low six bits
   pub record Computes (v : ℕ) : Type 0 where
     pub goes_on : GoesOn
     pub writes : Writes v

@@ -257,11 +257,11 @@ x_rs1 inst s = reg (rs1 inst) s
 abbrev pub x_rs2 : ℕ → State → ℕ
 x_rs2 inst s = reg (rs2 inst) s
 
--- the sign-extended immediate_i
+-- the sign-extended I-immediate
 abbrev pub i_immediate : ℕ → ℕ
 i_immediate inst = low (immediate_i inst)
 
--- the sign-extended immediate_s
+-- the sign-extended S-immediate
 abbrev pub s_immediate : ℕ → ℕ
 s_immediate inst = low (immediate_s inst)
 
