@@ -138,9 +138,9 @@ fn put_effect(
     out: &mut [u64],
 )
     requires { InRange row × (Sound e × (length out.old ≡ 17)) }
-    ensures regs_after { regs.new ≡ regs_after e regs.old }
-    ensures ram_after { ram.new ≡ ram_after e ram.old }
-    ensures out_after { out.new ≡ words (record_of row at e regs.old ram.old) }
+    ensures regs { regs.new ≡ regs_after e regs.old }
+    ensures ram { ram.new ≡ ram_after e ram.old }
+    ensures shown { out.new ≡ words (record_of row at e regs.old ram.old) }
 {
     let record = record_of(row, at, e, regs, ram);
     let rd = e.write.rd;
@@ -165,8 +165,8 @@ fn commit(
     out: &mut [u64],
 ) -> Core
     requires { InRange row × (Sound e × ((core.cycles < 2 ^ 62) × (length out.old ≡ 17))) }
-    ensures ram_after { whole result regs.new ram.new ≡ (commit row (whole core regs.old ram.old) e).after }
-    ensures out_after { out.new ≡ words (commit row (whole core regs.old ram.old) e).shown }
+    ensures cursor { whole result regs.new ram.new ≡ (commit row (whole core regs.old ram.old) e).after }
+    ensures shown { out.new ≡ words (commit row (whole core regs.old ram.old) e).shown }
 {
     put_effect(row, core.micro_pc, e, regs, ram, out);
     let scratch = e.scratch;
@@ -205,8 +205,8 @@ pub(crate) fn live_cycle(
     out: &mut [u64],
 ) -> Core
     requires { InRange row × ((core.cycles < 2 ^ 62) × ((core.micro_pc.0 < count) × (length out.old ≡ 17))) }
-    ensures ram_after { whole result regs.new ram.new ≡ (step_at row count (whole core regs.old ram.old)).after }
-    ensures out_after { out.new ≡ words (step_at row count (whole core regs.old ram.old)).shown }
+    ensures cursor { whole result regs.new ram.new ≡ (step_at row count (whole core regs.old ram.old)).after }
+    ensures shown { out.new ≡ words (step_at row count (whole core regs.old ram.old)).shown }
 {
     let mp = core.micro_pc;
     let next = next_row(mp, count);
@@ -238,8 +238,8 @@ pub(crate) fn padding_cycle(
     out: &mut [u64],
 )
     requires { InRange row × (length out.old ≡ 17) }
-    ensures ram_after { whole core regs.new ram.new ≡ (frozen_at row (whole core regs.old ram.old)).after }
-    ensures out_after { out.new ≡ words (frozen_at row (whole core regs.old ram.old)).shown }
+    ensures cursor { whole core regs.new ram.new ≡ (frozen_at row (whole core regs.old ram.old)).after }
+    ensures shown { out.new ≡ words (frozen_at row (whole core regs.old ram.old)).shown }
 {
     let e = padding_arm(row, core.next_fetch, core.output, regs);
     put_effect(row, core.next_fetch, e, regs, ram, out);

@@ -67,10 +67,10 @@ fn run_live(
     records: &mut [u64],
 ) -> Stopped
     requires { Ready (length rows.now) start limit (length records.old) }
-    ensures count_value { result.count ≡ live_count_of rows.now limit (whole start regs.old ram.old) }
-    ensures row_value { result.row ≡ row_at rows.now result.core.next_fetch.0 }
-    ensures ram_after { whole result.core regs.new ram.new ≡ stopped_at rows.now limit (whole start regs.old ram.old) }
-    ensures records_after { records.new ≡ flat (live_records_of rows.now limit (whole start regs.old ram.old)) ++ drop (17 * result.count) records.old }
+    ensures count { result.count ≡ live_count_of rows.now limit (whole start regs.old ram.old) }
+    ensures row { result.row ≡ row_at rows.now result.core.next_fetch.0 }
+    ensures cursor { whole result.core regs.new ram.new ≡ stopped_at rows.now limit (whole start regs.old ram.old) }
+    ensures records { records.new ≡ flat (live_records_of rows.now limit (whole start regs.old ram.old)) ++ drop (17 * result.count) records.old }
 {
     let mut core = afresh(start);
     let mut i: usize = 0;
@@ -105,8 +105,8 @@ fn run_padding(
     records: &mut [u64],
 )
     requires { InRange row × (17 * n ≤ length records.old) }
-    ensures ram_after { whole core regs.new ram.new ≡ end (frozen_at row) n (whole core regs.old ram.old) }
-    ensures records_after { records.new ≡ flat (recorded (frozen_at row) n (whole core regs.old ram.old)) ++ drop (17 * n) records.old }
+    ensures cursor { whole core regs.new ram.new ≡ end (frozen_at row) n (whole core regs.old ram.old) }
+    ensures records { records.new ≡ flat (recorded (frozen_at row) n (whole core regs.old ram.old)) ++ drop (17 * n) records.old }
 {
     let mut i: usize = 0;
     while i < n {
@@ -131,8 +131,8 @@ fn pad_rest(
     records: &mut [u64],
 )
     requires { InRange stopped.row × ((stopped.count ≤ due) × (17 * due ≤ length records.old)) }
-    ensures ram_after { whole stopped.core regs.new ram.new ≡ end (frozen_at stopped.row) (due - stopped.count) (whole stopped.core regs.old ram.old) }
-    ensures records_after { records.new ≡ take (17 * stopped.count) records.old ++ (flat (recorded (frozen_at stopped.row) (due - stopped.count) (whole stopped.core regs.old ram.old)) ++ drop (17 * due) records.old) }
+    ensures cursor { whole stopped.core regs.new ram.new ≡ end (frozen_at stopped.row) (due - stopped.count) (whole stopped.core regs.old ram.old) }
+    ensures records { records.new ≡ take (17 * stopped.count) records.old ++ (flat (recorded (frozen_at stopped.row) (due - stopped.count) (whole stopped.core regs.old ram.old)) ++ drop (17 * due) records.old) }
 {
     let base = RECORD_WORDS * stopped.count;
     run_padding(
@@ -205,11 +205,11 @@ pub(crate) fn run_padded(
     records: &mut [u64],
 ) -> Execution
     requires { Ready (length rows.now) (core_of cursor) limit (length records.old) × Room due limit (length records.old) }
-    ensures outcome_value { result.outcome ≡ Accepted }
-    ensures live_count_value { result.live_count ≡ (padded_to due rows.now limit cursor records.old).live_count }
-    ensures record_count_value { result.record_count ≡ (padded_to due rows.now limit cursor records.old).record_count }
-    ensures cursor_value { result.cursor ≡ (padded_to due rows.now limit cursor records.old).cursor }
-    ensures records_after { records.new ≡ (padded_to due rows.now limit cursor records.old).buffer }
+    ensures outcome { result.outcome ≡ Accepted }
+    ensures live { result.live_count ≡ (padded_to due rows.now limit cursor records.old).live_count }
+    ensures count { result.record_count ≡ (padded_to due rows.now limit cursor records.old).record_count }
+    ensures cursor { result.cursor ≡ (padded_to due rows.now limit cursor records.old).cursor }
+    ensures records { records.new ≡ (padded_to due rows.now limit cursor records.old).buffer }
 {
     let mut regs = cursor.regs;
     let mut ram = cursor.ram;

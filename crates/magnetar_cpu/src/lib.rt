@@ -114,8 +114,8 @@ fn write_cursor(c: Cursor, image: &mut [u64; IMAGE_WORDS])
 
 // The number of an outcome. If it is 0, the cursor goes to `image`; if not, `image` stays as it was.
 fn settle(outcome: Outcome, after: Cursor, image: &mut [u64; IMAGE_WORDS]) -> u64
-    ensures value { result ≡ outcome_number outcome }
-    ensures image_after { image.new ≡ left_after (outcome_number outcome) (image_of after) image.old }
+    ensures answer { result ≡ outcome_number outcome }
+    ensures image { image.new ≡ left_after (outcome_number outcome) (image_of after) image.old }
 {
     if let Outcome::Refused(e) = outcome {
         return e.number();

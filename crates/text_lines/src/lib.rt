@@ -97,8 +97,8 @@ fn refill<R: Read>(reader: &mut R, text: &mut [u8], at: usize, end: usize) -> Fi
 // The line from `start` up to the line feed at `stop`, and what is left behind it.
 fn line_taken(start: usize, stop: usize, end: usize) -> Taken
     requires { (start ≤ stop) × (stop < end) × (end ≤ 65536) }
-    ensures start_le_stop { (result.start ≤ result.stop) × (result.stop < 65536) }
-    ensures at_le_end { (result.unread.at ≤ result.unread.end) × (result.unread.end ≤ 65536) }
+    ensures line { (result.start ≤ result.stop) × (result.stop < 65536) }
+    ensures unread { (result.unread.at ≤ result.unread.end) × (result.unread.end ≤ 65536) }
 {
     Taken {
         next: Next::Line,
@@ -109,8 +109,8 @@ fn line_taken(start: usize, stop: usize, end: usize) -> Taken
 }
 
 fn no_line(next: Next) -> Taken
-    ensures start_le_stop { (result.start ≤ result.stop) × (result.stop < 65536) }
-    ensures at_le_end { (result.unread.at ≤ result.unread.end) × (result.unread.end ≤ 65536) }
+    ensures line { (result.start ≤ result.stop) × (result.stop < 65536) }
+    ensures unread { (result.unread.at ≤ result.unread.end) × (result.unread.end ≤ 65536) }
 {
     Taken {
         next,
@@ -123,8 +123,8 @@ fn no_line(next: Next) -> Taken
 // Takes the next line of a text that holds so many bytes and is not read on.
 fn take_first(text: &Text, have: usize) -> Taken
     requires { have ≤ 65536 }
-    ensures start_le_stop { (result.start ≤ result.stop) × (result.stop < 65536) }
-    ensures at_le_end { (result.unread.at ≤ result.unread.end) × (result.unread.end ≤ 65536) }
+    ensures line { (result.start ≤ result.stop) × (result.stop < 65536) }
+    ensures unread { (result.unread.at ≤ result.unread.end) × (result.unread.end ≤ 65536) }
 {
     let stop = line_end(text, 0, have);
     if stop < have {
@@ -153,8 +153,8 @@ fn within(unread: Unread) -> Unread
 
 // Takes the next line of a file. It lies in `text` until the next call.
 pub fn take_text<R: Read>(reader: &mut R, text: &mut Text, unread: Unread) -> Taken
-    ensures start_le_stop { (result.start ≤ result.stop) × (result.stop < 65536) }
-    ensures at_le_end { (result.unread.at ≤ result.unread.end) × (result.unread.end ≤ 65536) }
+    ensures line { (result.start ≤ result.stop) × (result.stop < 65536) }
+    ensures unread { (result.unread.at ≤ result.unread.end) × (result.unread.end ≤ 65536) }
 {
     let inside = within(unread);
     let at = inside.at;

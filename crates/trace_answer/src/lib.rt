@@ -96,8 +96,8 @@ fn fill_program(bytes: &[u8], from: usize, n: usize, program: &mut [u32])
 // Executes the rows and puts the text of what comes of it.
 fn put_run(rows: &[u64], input: &[u64], max: u64, out: &mut [u8; lines::TEXT]) -> usize
     requires { max ≤ 256 }
-    ensures value { result ≡ length (told_of (run_of rows.now input.now max)) }
-    ensures out_after { out.new ≡ written (told_of (run_of rows.now input.now max)) out.old }
+    ensures length { result ≡ length (told_of (run_of rows.now input.now max)) }
+    ensures text { out.new ≡ written (told_of (run_of rows.now input.now max)) out.old }
 {
     let mut records = [0u64; lines::WORDS];
     let done = interp::execute(rows, input, max, &mut records);
@@ -120,8 +120,8 @@ fn put_run(rows: &[u64], input: &[u64], max: u64, out: &mut [u8; lines::TEXT]) -
 // Expands the program and puts the text of its run.
 fn put_program(program: &[u32], input: &[u64], max: u64, out: &mut [u8; lines::TEXT]) -> usize
     requires { (length program.now ≤ 1022) × (max ≤ 256) }
-    ensures value { result ≡ length (told_of (run_of (expansion_of program.now) input.now max)) }
-    ensures out_after { out.new ≡ written (told_of (run_of (expansion_of program.now) input.now max)) out.old }
+    ensures length { result ≡ length (told_of (run_of (expansion_of program.now) input.now max)) }
+    ensures text { out.new ≡ written (told_of (run_of (expansion_of program.now) input.now max)) out.old }
 {
     let mut rows = [0u64; ROWS];
     let mut starts = [0u64; WORDS];

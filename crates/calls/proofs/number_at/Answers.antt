@@ -5,7 +5,7 @@ use Prim.Native.Nat.{ℕ, ◌+◌, ◌-◌}
 use native.Mathlib.Omega.{arith}
 use lib.ListN.{length, take, drop, get_or, length-drop}
 use lib.Seq.{take_all, drop-drop}
-use borrow.Author.Tests.{eq-eqb}
+use borrow.Author.Tests.{eq-eqb, ne_eqb}
 use Rattle.calls.specs.Parse.{digits_from, plain, spaced_number}
 use Rattle.calls.proofs.Turns.{short_none, spaceless, digitless, spaced, none_inside, leading-zero, no_leading_zero}
 use Rattle.calls.proofs.number_at.Goals.{After-digits_at-number}
@@ -66,7 +66,7 @@ pub returns-then-number-at : goal.returns-then-number-at
 returns-then-number-at c =
     let a = c.args in
     let none = c.no_number-then-number-at.ensures in
-    let zero = leading-zero (get_or (rest a.line.now a.at) 1 0) a.at c.digits_at-number.result c.if-rest-eq48.true c.if-number-at.true-raw in
+    let zero = leading-zero (get_or (rest a.line.now a.at) 1 0) a.at c.digits_at-number.result c.if-rest-eq48.true (rw (ne_eqb _ _ c.if-number-at.true) refl) in
     record {
       number = none ∙ sym (digits (goal.at.returns-then-number-at c).After-digits_at-number ∙ zero);
       inside = none_inside c.no_number-then-number-at.result (length a.line.now) none;

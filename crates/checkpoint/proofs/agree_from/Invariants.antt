@@ -1,11 +1,8 @@
 -- `checkpoint::agree_from` meets its contract. Assumes nothing.
-use mathlib.Core.Path.{◌≡◌, refl, sym, ◌∙◌}
+use mathlib.Core.Path.{◌≡◌}
 use Prim.Native.Nat.{◌-◌}
-use native.Mathlib.Omega.{arith}
-use native.Mathlib.Numerals.{add-one}
 use lib.ListN.{length, drop}
 use Rattle.checkpoint.specs.Checkpoint.{agree}
-use Rattle.checkpoint.proofs.Laws.{agree_on, agree_off, agree-end}
 use Rattle.checkpoint.proofs.agree_from.Given as goal
 
 -- the words that are left agree where all from `from` on do

@@ -46,11 +46,10 @@ returns-then-starts-program c =
 
 pub returns : goal.returns
 returns c =
-    let s = c in
-    let p = s.args.program.now in
+    let p = c.args.program.now in
     let n = c.count_rows-n in
     let done = c.fill in
-    let e = accepted p (length s.args.rows.now) (length s.args.starts.now) c.if-program-eq0.false (omega (arith, c)) (omega (arith, n.ensures, c)) (omega (arith, c)) in
+    let e = accepted p (length c.args.rows.now) (length c.args.starts.now) c.if-program-eq0.false (omega (arith, c)) (omega (arith, n.ensures, c)) (omega (arith, c)) in
     record {
       answer = rw e (rw n.ensures);
       rows = rw e done.ensures.rows;

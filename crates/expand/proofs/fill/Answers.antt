@@ -8,16 +8,14 @@ loop-inst-init c = filled_none _ _ _
 
 pub put-at-requires : goal.put-at-requires
 put-at-requires c =
-    let s = c in
     let at = c.loop-inst in
-    omega (arith, at.invariant, s.requires, room s.args.program.now at.inst.0 c.loop-inst-test.true)
+    omega (arith, at.invariant, c.requires, room c.args.program.now at.inst.0 c.loop-inst-test.true)
 
 pub loop-inst-preserved : goal.loop-inst-preserved
 loop-inst-preserved c =
-    let s = c in
     let at = c.loop-inst in
     let put = c.put-at in
-    filled_on s.args.program.now s.args.rows.now s.args.starts.now at.rows at.starts at.at.0 at.inst.0 at.invariant c.loop-inst-test.true s.requires.1 put.new.rows put.result.0 put.ensures.next put.ensures.rows put.auto.rows
+    filled_on c.args.program.now c.args.rows.now c.args.starts.now at.rows at.starts at.at.0 at.inst.0 at.invariant c.loop-inst-test.true c.requires.1 put.new.rows put.result.0 put.ensures.next put.ensures.rows put.auto.rows
 
 pub shape_of-rows : goal.shape_of-rows
 shape_of-rows c = c.loop-inst.invariant.rows_long

@@ -8,31 +8,28 @@ use Rattle.expand.proofs.put.Goals as goal
 
 pub loop-k-init : goal.loop-k-init
 loop-k-init c =
-    let s = c in
-    let six : later s.args.raw ≡ stages 5 1 s.args.raw = six_rows s.args.raw c.is_reg_shift.result s.ranges.raw.fits c.is_reg_shift.ensures c.if-is_reg_shift.true in
-    (omega arith, s.ranges.raw.fits, rw six refl, rw six at s.requires, refl, paste-zero s.args.rows.now s.args.at.0 (rows_of s.args.raw))
+    let six : later c.args.raw ≡ stages 5 1 c.args.raw = six_rows c.args.raw c.is_reg_shift.result c.ranges.raw.fits c.is_reg_shift.ensures c.if-is_reg_shift.true in
+    (omega arith, c.ranges.raw.fits, rw six refl, rw six at c.requires, refl, paste-zero c.args.rows.now c.args.at.0 (rows_of c.args.raw))
 
 pub loop-k-preserved : goal.loop-k-preserved
 loop-k-preserved c =
-    let s = c in
     let at = c.loop-k in (
       omega arith,
       at.invariant.1,
       at.invariant.2,
       at.invariant.3,
       simp length-set at.invariant.4,
-      put_more s.args.raw s.args.at.0 at.k at.rows s.args.rows.now (omega arith) s.requires at.invariant.5,
+      put_more c.args.raw c.args.at.0 at.k at.rows c.args.rows.now (omega arith) c.requires at.invariant.5,
     )
 
 pub returns-then-is_reg_shift : goal.returns-then-is_reg_shift
 returns-then-is_reg_shift c =
-    let s = c in
     let at = c.loop-k in
-    let n : length (rows_of s.args.raw) ≡ 6 = at.invariant.2 in
-    let k : at.k ≡ length (rows_of s.args.raw) = omega arith in
+    let n : length (rows_of c.args.raw) ≡ 6 = at.invariant.2 in
+    let k : at.k ≡ length (rows_of c.args.raw) = omega arith in
     record {
       next = omega arith;
-      rows = at.invariant.5 ∙ ap (paste s.args.rows.now s.args.at.0 (rows_of s.args.raw)) k ∙ put_all s.args.raw s.args.at.0 s.args.rows.now;
+      rows = at.invariant.5 ∙ ap (paste c.args.rows.now c.args.at.0 (rows_of c.args.raw)) k ∙ put_all c.args.raw c.args.at.0 c.args.rows.now;
     }
 
 pub returns : goal.returns

@@ -8,6 +8,3 @@ use Rattle.expand.proofs.stages_after.Given as goal
 abbrev pub invariant-loop-k : goal.invariant-loop-k
 invariant-loop-k l =
     (1 ≤ l.k) × (l.k ≤ 6) × (l.v < 2 ^ 32) × (l.i + 6 ≤ length l.rows) × (begins_with (stages 5 1 l.v) (drop (l.i + 1) l.rows) ≡ begins_with (stages (6 - l.k) l.k l.v) (drop (l.i + l.k) l.rows))
-
-abbrev pub decreases-loop-k : goal.decreases-loop-k
-decreases-loop-k l = 6 - l.k

@@ -1,8 +1,5 @@
 use Prim.Native.Nat.{◌-◌, ◌^◌}
 use Rattle.expand_vectors.proofs.check_list.Given as goal
 
-abbrev pub invariant-loop-programs : goal.invariant-loop-programs
-invariant-loop-programs l = Unit {0}
-
 abbrev pub decreases-loop-programs : goal.decreases-loop-programs
 decreases-loop-programs l = 2 ^ 64 - l.programs

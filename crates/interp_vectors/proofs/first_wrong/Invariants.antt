@@ -1,8 +1,5 @@
-use Prim.Native.Nat.{◌-◌, ◌≤◌}
+use Prim.Native.Nat.{◌≤◌}
 use Rattle.interp_vectors.proofs.first_wrong.Given as goal
 
 abbrev pub invariant-loop-j : goal.invariant-loop-j
 invariant-loop-j l = l.j ≤ 17
-
-abbrev pub decreases-loop-j : goal.decreases-loop-j
-decreases-loop-j l = 17 - l.j

@@ -9,8 +9,7 @@ use Rattle.lines.proofs.put_line.Goals as goal
 pub put_number-next-requires : goal.put_number-next-requires
 put_number-next-requires c =
     let l = c.loop-i in
-    let a = c in
-    part-fits (number_text (get_or a.args.words.now l.i 0) 44) _ l.invariant.1 (word_next _ l.i (omega arith)) a.requires.1
+    part-fits (number_text (get_or c.args.words.now l.i 0) 44) _ l.invariant.1 (word_next _ l.i (omega arith)) c.requires.1
 
 pub loop-i-preserved : goal.loop-i-preserved
 loop-i-preserved c =
@@ -22,8 +21,7 @@ loop-i-preserved c =
 pub put_number-requires : goal.put_number-requires
 put_number-requires c =
     let l = c.loop-i in
-    let a = c in
-    omega (arith, l.invariant.1, ap length (word-last a.args.words.now l.i (omega arith)))
+    omega (arith, l.invariant.1, ap length (word-last c.args.words.now l.i (omega arith)))
 
 pub returns : goal.returns
 returns c =

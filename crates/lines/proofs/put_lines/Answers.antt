@@ -14,10 +14,9 @@ loop-i-init c = (omega arith, rw sub-zero (none_put _ _ _))
 pub put_line-next-requires : goal.put_line-next-requires
 put_line-next-requires c =
     let l = c.loop-i in
-    let a = c in
-    let words = a.args.words.now in (
+    let words = c.args.words.now in (
       simp (length-take, length-drop) (omega arith),
-      part-fits (line_of (take (17 * l.i + 17 - 17 * l.i) (drop (17 * l.i) words))) _ l.invariant.1 (line-next a.args.records l.i words (omega arith)) a.requires.1,
+      part-fits (line_of (take (17 * l.i + 17 - 17 * l.i) (drop (17 * l.i) words))) _ l.invariant.1 (line-next c.args.records l.i words (omega arith)) c.requires.1,
     )
 
 pub loop-i-preserved : goal.loop-i-preserved

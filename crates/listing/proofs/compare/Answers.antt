@@ -6,20 +6,18 @@ use Rattle.listing.proofs.compare.Goals.{then-s-ne46+else-s-made, else-s-ne46}
 
 pub returns-then-s-made : goal.returns-then-s-made
 returns-then-s-made c =
-    let l = c in
-    place_differs l.args.stored.now l.args.made.now l.loop-i.i l.loop-i.n (omega arith) c.if-s-ne46.true c.if-s-made.true
-    ∙ l.loop-i.invariant.2
+    place_differs c.args.stored.now c.args.made.now c.loop-i.i c.loop-i.n (omega arith) c.if-s-ne46.true c.if-s-made.true
+    ∙ c.loop-i.invariant.2
 
 pub loop-i-preserved : goal.loop-i-preserved
 loop-i-preserved c =
-    let l = c in
-    let s = l.args.stored.now in
-    let m = l.args.made.now in
+    let s = c.args.stored.now in
+    let m = c.args.made.now in
     elim c.if-s-ne46.branch [
       | then-s-ne46+else-s-made w ↦
-          (omega arith, omega arith, rw w.n-is (place_same s m l.loop-i.i l.loop-i.n (omega arith) w.if-s-ne46.true w.if-s-made.false ∙ l.loop-i.invariant.2))
+          (omega arith, omega arith, rw w.n-is (place_same s m c.loop-i.i c.loop-i.n (omega arith) w.if-s-ne46.true w.if-s-made.false ∙ c.loop-i.invariant.2))
       | else-s-ne46 w ↦
-          (omega arith, omega arith, rw w.n-is (dot_passed s m l.loop-i.i l.loop-i.n (omega arith) w.if-s-ne46.false ∙ l.loop-i.invariant.2))
+          (omega arith, omega arith, rw w.n-is (dot_passed s m c.loop-i.i c.loop-i.n (omega arith) w.if-s-ne46.false ∙ c.loop-i.invariant.2))
     ]
 
 pub returns : goal.returns

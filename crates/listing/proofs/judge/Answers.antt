@@ -2,17 +2,11 @@ use Rattle.listing.proofs.judge.Goals as goal
 
 pub returns-in-Same : goal.returns-in-Same
 returns-in-Same c =
-    let k = c in
-    let l = k in
-    let r = l in
-    simp (← r.parsed_word.ensures, r.in-Number.is, ← l.word_line_of-made.ensures, ← k.compare.ensures, c.in-Same.is)
+    simp (← c.parsed_word.ensures, c.in-Number.is, ← c.word_line_of-made.ensures, ← c.compare.ensures, c.in-Same.is)
 
 pub returns-in-Differs : goal.returns-in-Differs
 returns-in-Differs c =
-    let k = c in
-    let l = k in
-    let r = l in
-    simp (← r.parsed_word.ensures, r.in-Number.is, ← l.word_line_of-made.ensures, ← k.compare.ensures, c.in-Differs.is)
+    simp (← c.parsed_word.ensures, c.in-Number.is, ← c.word_line_of-made.ensures, ← c.compare.ensures, c.in-Differs.is)
 
 pub returns-in_default : goal.returns-in_default
 returns-in_default c = simp (← c.parsed_word.ensures, c.in_default.is)

@@ -10,31 +10,27 @@ loop-i-init c = (omega arith, rw pow-zero (omega arith), rw (sub-zero, add-zero)
 
 pub returns-then-base-d : goal.returns-then-base-d
 returns-then-base-d c =
-    let l = c in
-    let a = l.args in
-    no_digit a.base a.n l.loop-i.i l.loop-i.number (omega arith) a.line.now a.at (rw c.hex_value-d.ensures.value at c.if-base-d.true)
-    ∙ l.loop-i.invariant.2
+    let a = c.args in
+    no_digit a.base a.n c.loop-i.i c.loop-i.number (omega arith) a.line.now a.at (rw c.hex_value-d.ensures.value at c.if-base-d.true)
+    ∙ c.loop-i.invariant.2
 
 pub overflow_mul-number : goal.overflow_mul-number
 overflow_mul-number c =
-    let l = c in
-    let a = l.args in
-    record { fits = omega (arith, digit-fits a.base a.n l.loop-i.i l.loop-i.number (omega arith) 0 l.loop-i.invariant.1 (omega arith) (omega arith)) }
+    let a = c.args in
+    record { fits = omega (arith, digit-fits a.base a.n c.loop-i.i c.loop-i.number (omega arith) 0 c.loop-i.invariant.1 (omega arith) (omega arith)) }
 
 pub overflow_add-number : goal.overflow_add-number
 overflow_add-number c =
-    let l = c in
-    let a = l.args in
-    record { fits = (digit-fits a.base a.n l.loop-i.i l.loop-i.number (omega arith) c.hex_value-d.result l.loop-i.invariant.1 (omega arith) (omega arith)).1 }
+    let a = c.args in
+    record { fits = (digit-fits a.base a.n c.loop-i.i c.loop-i.number (omega arith) c.hex_value-d.result c.loop-i.invariant.1 (omega arith) (omega arith)).1 }
 
 pub loop-i-preserved : goal.loop-i-preserved
 loop-i-preserved c =
-    let l = c in
-    let a = l.args in
+    let a = c.args in
     let d = c.hex_value-d in (
       omega arith,
-      (digit-fits a.base a.n l.loop-i.i l.loop-i.number (omega arith) d.result l.loop-i.invariant.1 (omega arith) (omega arith)).0,
-      rw d.ensures.value (digit-read a.base a.n l.loop-i.i l.loop-i.number (omega arith) a.line.now a.at (rw d.ensures.value at c.if-base-d.false) ∙ l.loop-i.invariant.2),
+      (digit-fits a.base a.n c.loop-i.i c.loop-i.number (omega arith) d.result c.loop-i.invariant.1 (omega arith) (omega arith)).0,
+      rw d.ensures.value (digit-read a.base a.n c.loop-i.i c.loop-i.number (omega arith) a.line.now a.at (rw d.ensures.value at c.if-base-d.false) ∙ c.loop-i.invariant.2),
     )
 
 pub returns : goal.returns

@@ -5,7 +5,5 @@ use Rattle.listing.proofs.word_line_of.Goals as goal
 
 pub returns : goal.returns
 returns c =
-    let f = c in
-    let b = f in
-    let d = b.decode-d in
-    line_made d.result b.blank_of-line.ensures f.put_fields.ensures c.put_digits.ensures ∙ ap line_of_inst d.ensures
+    let d = c.decode-d in
+    line_made d.result c.blank_of-line.ensures c.put_fields.ensures c.put_digits.ensures ∙ ap line_of_inst d.ensures

@@ -5,9 +5,8 @@ use Rattle.magnetar_cpu.proofs.magnetar_execute.Goals as goal
 
 pub returns-then-number-eq0 : goal.returns-then-number-eq0
 returns-then-number-eq0 c =
-    let s = c in
-    let call = s.execute-answer.ensures in
-    let t = told _ call.answer call.cursor (s.settle-number.ensures.value, s.settle-number.ensures.image_after) in
+    let call = c.execute-answer.ensures in
+    let t = told _ call.answer call.cursor (c.settle-number.ensures.answer, c.settle-number.ensures.image) in
     let new = new-left t.0 c.if-number-eq0.true in
     record {
       answer = t.0;
@@ -19,9 +18,8 @@ returns-then-number-eq0 c =
 
 pub returns-else-number-eq0 : goal.returns-else-number-eq0
 returns-else-number-eq0 c =
-    let s = c in
-    let call = s.execute-answer.ensures in
-    let t = told _ call.answer call.cursor (s.settle-number.ensures.value, s.settle-number.ensures.image_after) in
+    let call = c.execute-answer.ensures in
+    let t = told _ call.answer call.cursor (c.settle-number.ensures.answer, c.settle-number.ensures.image) in
     let old = old-left t.0 c.if-number-eq0.false in
     record {
       answer = t.0;

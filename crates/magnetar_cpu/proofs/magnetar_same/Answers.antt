@@ -6,10 +6,8 @@ use Rattle.magnetar_cpu.proofs.magnetar_same.Goals as goal
 
 pub returns-then-same_checkpoint : goal.returns-then-same_checkpoint
 returns-then-same_checkpoint c =
-    let s = c in
-    ap bool_word (sym c.if-same_checkpoint.true ∙ s.same_checkpoint.ensures ∙ ap₂ same_of s.read_cursor-first.ensures s.read_cursor-second.ensures)
+    ap bool_word (sym c.if-same_checkpoint.true ∙ c.same_checkpoint.ensures ∙ ap₂ same_of c.read_cursor-first.ensures c.read_cursor-second.ensures)
 
 pub returns-else-same_checkpoint : goal.returns-else-same_checkpoint
 returns-else-same_checkpoint c =
-    let s = c in
-    ap bool_word (sym c.if-same_checkpoint.false ∙ s.same_checkpoint.ensures ∙ ap₂ same_of s.read_cursor-first.ensures s.read_cursor-second.ensures)
+    ap bool_word (sym c.if-same_checkpoint.false ∙ c.same_checkpoint.ensures ∙ ap₂ same_of c.read_cursor-first.ensures c.read_cursor-second.ensures)

@@ -8,7 +8,5 @@ use Rattle.magnetar_cpu.proofs.read_cursor.Goals as goal
 pub returns : goal.returns
 unfolding cursor_of
 returns c =
-    let second = c in
-    let first = second in
-    let image = first.args.image.now in
-    rw (first.copy.ensures ∙ copied_over (replicate 64 0) image 64 refl, second.copy-2.ensures ∙ copied_over (replicate 256 0) (drop 64 image) 256 refl)
+    let image = c.args.image.now in
+    rw (c.copy.ensures ∙ copied_over (replicate 64 0) image 64 refl, c.copy-2.ensures ∙ copied_over (replicate 256 0) (drop 64 image) 256 refl)

@@ -5,12 +5,12 @@ use Rattle.magnetar_cpu.proofs.settle.Goals as goal
 
 pub returns-in-Refused : goal.returns-in-Refused
 returns-in-Refused c = let told = c.in-Refused.is in record {
-  value = rw told c.number.ensures;
-  image_after = rw (told, laws.refused _) refl;
+  answer = rw told c.number.ensures;
+  image = rw (told, laws.refused _) refl;
 }
 
 pub returns : goal.returns
 returns c = let told = c.in_default.is in record {
-  value = rw told refl;
-  image_after = rw told c.write_cursor.ensures;
+  answer = rw told refl;
+  image = rw told c.write_cursor.ensures;
 }

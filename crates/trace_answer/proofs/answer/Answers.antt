@@ -67,6 +67,6 @@ returns c =
     let input = ap (take k) c.fill_input.ensures ∙ take_at (inputs_from k 2 bytes) _ k (inputs_length k 2 bytes) in
     let no = (sym c.is_malformed.ensures ∙ c.if-is_malformed.false) in
     record {
-      length = rw (no, ← c.word_at-k.ensures, ← c.word_at-max.ensures, ← program, ← input) c.put_program.ensures.value;
-      text = rw (no, ← c.word_at-k.ensures, ← c.word_at-max.ensures, ← program, ← input) c.put_program.ensures.out_after;
+      length = rw (no, ← c.word_at-k.ensures, ← c.word_at-max.ensures, ← program, ← input) c.put_program.ensures.length;
+      text = rw (no, ← c.word_at-k.ensures, ← c.word_at-max.ensures, ← program, ← input) c.put_program.ensures.text;
     }

@@ -18,12 +18,9 @@ returns-then-n-gt-MAX_BYTES c = simp (eq-eqb _ _ c.if-n-ne0.false, le-ltb _ _ c.
 pub returns-then-n-word_at : goal.returns-then-n-word_at
 unfolding malformed
 returns-then-n-word_at c =
-    let over = c in
-    simp (eq-eqb _ _ over.if-n-ne0.false, le-ltb _ _ over.if-n-lt8.false, le-ltb _ _ over.if-n-gt-MAX_BYTES.false, ← c.word_at.ensures, lt-ltb _ _ c.if-n-word_at.true)
+    simp (eq-eqb _ _ c.if-n-ne0.false, le-ltb _ _ c.if-n-lt8.false, le-ltb _ _ c.if-n-gt-MAX_BYTES.false, ← c.word_at.ensures, lt-ltb _ _ c.if-n-word_at.true)
 
 pub returns : goal.returns
 unfolding malformed
 returns c =
-    let inside = c in
-    let over = inside in
-    simp (eq-eqb _ _ over.if-n-ne0.false, le-ltb _ _ over.if-n-lt8.false, le-ltb _ _ over.if-n-gt-MAX_BYTES.false, ← inside.word_at.ensures, le-ltb _ _ inside.if-n-word_at.false, ← c.word_at-2.ensures)
+    simp (eq-eqb _ _ c.if-n-ne0.false, le-ltb _ _ c.if-n-lt8.false, le-ltb _ _ c.if-n-gt-MAX_BYTES.false, ← c.word_at.ensures, le-ltb _ _ c.if-n-word_at.false, ← c.word_at-2.ensures)

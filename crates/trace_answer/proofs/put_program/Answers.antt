@@ -18,7 +18,7 @@ pub returns-in-Refused : goal.returns-in-Refused
 returns-in-Refused c =
     let told = told_no_program c.args.program.now (replicate 6132 0) (replicate 1022 0) c.in-Refused.why c.args.input.now c.args.max (replicate 4352 0) c.requires.0 refl refl (ap expand_told_of (sym c.in-Refused.is) ∙ c.expand_program-expanded.ensures.answer) in
     let put = c.put_refused.ensures in
-    record { value = rw (told, ← c.number.ensures) put.length; out_after = rw (told, ← c.number.ensures) put.text }
+    record { length = rw (told, ← c.number.ensures) put.length; text = rw (told, ← c.number.ensures) put.text }
 
 pub returns-in-Rows : goal.returns-in-Rows
 returns-in-Rows c =

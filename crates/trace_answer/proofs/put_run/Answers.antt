@@ -14,7 +14,7 @@ returns-in-Refused c =
     let e = execute_of a.rows.now a.input.now a.max (replicate 4352 0) in
     let told = told_refused e c.in-Refused.why (ap outcome_number (sym c.in-Refused.is) ∙ c.execute-done.ensures.answer) in
     let put = c.put_refused.ensures in
-    record { value = rw (told, ← c.number.ensures) put.length; out_after = rw (told, ← c.number.ensures) put.text }
+    record { length = rw (told, ← c.number.ensures) put.length; text = rw (told, ← c.number.ensures) put.text }
 
 pub returns-in-Accepted : goal.returns-in-Accepted
 returns-in-Accepted c =
@@ -27,6 +27,6 @@ returns-in-Accepted c =
     omega (arith, made.count, count_most a.rows.now a.input.now a.max (replicate 4352 0) c.requires (sym none)) in
     let put = rw few at c.put_answer.ensures in
     record {
-      value = rw (told, ← made.live, ← made.count, ← made.cursor, ← made.records) put.length;
-      out_after = rw (told, ← made.live, ← made.count, ← made.cursor, ← made.records) put.text;
+      length = rw (told, ← made.live, ← made.count, ← made.cursor, ← made.records) put.length;
+      text = rw (told, ← made.live, ← made.count, ← made.cursor, ← made.records) put.text;
     }

@@ -41,6 +41,6 @@ returns-in-Accepted c =
     let done = rw c.live_limit-limit.ensures at c.run_padded-ran.ensures in
     record {
       answer = rw (told, answer) refl;
-      cursor = rw answer (done.cursor_value ∙ ran_end rows a.is_segment a.n a.cursor);
-      records = rw answer (done.records_after ∙ ran_words rows a.is_segment a.n a.cursor _);
+      cursor = rw answer (done.cursor ∙ ran_end rows a.is_segment a.n a.cursor);
+      records = rw answer (done.records ∙ ran_words rows a.is_segment a.n a.cursor _);
     }

@@ -81,55 +81,55 @@ commit-requires-in-System c = may_commit c.args.row c.args.core c.args.count c.a
 pub returns-in-Alu : goal.returns-in-Alu
 unfolding step_at
 returns-in-Alu c = let done = c.commit.ensures in let e = alu_is (goal.at.returns-in-Alu c).After-alu_arm in record {
-  ram_after = done.ram_after ∙ rw e refl;
-  out_after = done.out_after ∙ rw e refl;
+  cursor = done.cursor ∙ rw e refl;
+  shown = done.shown ∙ rw e refl;
 }
 
 pub returns-in-ShiftStage : goal.returns-in-ShiftStage
 unfolding step_at
 returns-in-ShiftStage c = let done = c.commit-in-ShiftStage.ensures in let e = stage_is (goal.at.returns-in-ShiftStage c).After-stage_arm-e in record {
-  ram_after = done.ram_after ∙ rw e refl;
-  out_after = done.out_after ∙ rw e refl;
+  cursor = done.cursor ∙ rw e refl;
+  shown = done.shown ∙ rw e refl;
 }
 
 pub returns-in-Load : goal.returns-in-Load
 unfolding step_at
 returns-in-Load c = let done = c.commit-in-Load.ensures in let e = load_is (goal.at.returns-in-Load c).After-load_arm in record {
-  ram_after = done.ram_after ∙ rw e refl;
-  out_after = done.out_after ∙ rw e refl;
+  cursor = done.cursor ∙ rw e refl;
+  shown = done.shown ∙ rw e refl;
 }
 
 pub returns-in-Store : goal.returns-in-Store
 unfolding step_at
 returns-in-Store c = let done = c.commit-in-Store.ensures in let e = store_is (goal.at.returns-in-Store c).After-store_arm in record {
-  ram_after = done.ram_after ∙ rw e refl;
-  out_after = done.out_after ∙ rw e refl;
+  cursor = done.cursor ∙ rw e refl;
+  shown = done.shown ∙ rw e refl;
 }
 
 pub returns-in-Branch : goal.returns-in-Branch
 unfolding step_at
 returns-in-Branch c = let done = c.commit-in-Branch.ensures in let e = branch_is (goal.at.returns-in-Branch c).After-branch_arm-e in record {
-  ram_after = done.ram_after ∙ rw e refl;
-  out_after = done.out_after ∙ rw e refl;
+  cursor = done.cursor ∙ rw e refl;
+  shown = done.shown ∙ rw e refl;
 }
 
 pub returns-in-Upper : goal.returns-in-Upper
 unfolding step_at
 returns-in-Upper c = let done = c.commit-in-Upper.ensures in let e = upper_is (goal.at.returns-in-Upper c).After-upper_arm in record {
-  ram_after = done.ram_after ∙ rw e refl;
-  out_after = done.out_after ∙ rw e refl;
+  cursor = done.cursor ∙ rw e refl;
+  shown = done.shown ∙ rw e refl;
 }
 
 pub returns-in-Jump : goal.returns-in-Jump
 unfolding step_at
 returns-in-Jump c = let done = c.commit-in-Jump.ensures in let e = jump_is (goal.at.returns-in-Jump c).After-jump_arm in record {
-  ram_after = done.ram_after ∙ rw e refl;
-  out_after = done.out_after ∙ rw e refl;
+  cursor = done.cursor ∙ rw e refl;
+  shown = done.shown ∙ rw e refl;
 }
 
 pub returns-in-System : goal.returns-in-System
 unfolding step_at
 returns-in-System c = let done = c.commit-in-System.ensures in let e = system_is (goal.at.returns-in-System c).After-system_arm in record {
-  ram_after = done.ram_after ∙ rw e refl;
-  out_after = done.out_after ∙ rw e refl;
+  cursor = done.cursor ∙ rw e refl;
+  shown = done.shown ∙ rw e refl;
 }

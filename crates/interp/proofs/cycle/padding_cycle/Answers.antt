@@ -6,15 +6,14 @@ use Rattle.interp.proofs.cycle.padding_cycle.Goals as goal
 
 pub put_effect-requires : goal.put_effect-requires
 put_effect-requires c =
-    let start = c in
-    let a = start.args in
+    let a = c.args in
     let at = a.core.next_fetch in
-    let sound = (padding_lawful a.row at (suc at.0) a.regs.now start.requires.0.rd (omega arith) a.core.output).sound in
-    (start.requires.0, (rw c.padding_arm-e.ensures sound, start.requires.1))
+    let sound = (padding_lawful a.row at (suc at.0) a.regs.now c.requires.0.rd (omega arith) a.core.output).sound in
+    (c.requires.0, (rw c.padding_arm-e.ensures sound, c.requires.1))
 
 pub returns : goal.returns
 unfolding frozen_at
 returns c = let done = c.put_effect.ensures in let e = c.padding_arm-e.ensures in record {
-  ram_after = simp (done.regs_after, done.ram_after, e);
-  out_after = done.out_after ∙ simp e;
+  cursor = simp (done.regs, done.ram, e);
+  shown = done.shown ∙ simp e;
 }

@@ -11,7 +11,7 @@ put-requires c = let start = c in (start.requires.1.1, simp c.record_of-record.e
 pub returns : goal.returns
 unfolding regs_after
 returns c = record {
-  regs_after = refl;
-  ram_after = c.store.ensures;
-  out_after = c.put.ensures ∙ ap words c.record_of-record.ensures;
+  regs = refl;
+  ram = c.store.ensures;
+  shown = c.put.ensures ∙ ap words c.record_of-record.ensures;
 }

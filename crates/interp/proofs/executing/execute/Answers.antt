@@ -42,9 +42,9 @@ returns-in-Accepted c =
     let answer = accepted_is a.rows.now a.input.now a.max_cycles a.records.now (ap outcome_number (sym told) ∙ number (goal.at.returns-in-Accepted c).After-judge-outcome) in
     let done = rw c.start-start.ensures at c.run_padded.ensures in
     record {
-      answer = rw answer (ap outcome_number done.outcome_value);
-      live = rw answer done.live_count_value;
-      count = rw answer done.record_count_value;
-      cursor = rw answer done.cursor_value;
-      records = rw answer done.records_after;
+      answer = rw answer (ap outcome_number done.outcome);
+      live = rw answer done.live;
+      count = rw answer done.count;
+      cursor = rw answer done.cursor;
+      records = rw answer done.records;
     }

@@ -9,7 +9,7 @@ pub returns-then-rows-gt-MAX_ROWS : goal.returns-then-rows-gt-MAX_ROWS
 returns-then-rows-gt-MAX_ROWS c = simp (ne_eqb _ _ c.if-rows-eq0.false, lt-ltb _ _ c.if-rows-gt-MAX_ROWS.true)
 
 pub returns-then-not-is_expansion : goal.returns-then-not-is_expansion
-returns-then-not-is_expansion c = simp (ne_eqb _ _ c.if-rows-eq0.false, le-ltb _ _ c.if-rows-gt-MAX_ROWS.false, ← c.is_expansion.ensures, c.if-not-is_expansion.true-raw)
+returns-then-not-is_expansion c = simp (ne_eqb _ _ c.if-rows-eq0.false, le-ltb _ _ c.if-rows-gt-MAX_ROWS.false, ← c.is_expansion.ensures, c.if-not-is_expansion.true)
 
 pub returns : goal.returns
-returns c = simp (ne_eqb _ _ c.if-rows-eq0.false, le-ltb _ _ c.if-rows-gt-MAX_ROWS.false, ← c.is_expansion.ensures, c.if-not-is_expansion.false-raw)
+returns c = simp (ne_eqb _ _ c.if-rows-eq0.false, le-ltb _ _ c.if-rows-gt-MAX_ROWS.false, ← c.is_expansion.ensures, c.if-not-is_expansion.false)

@@ -9,12 +9,11 @@ use Rattle.interp.proofs.run.pad_rest.Goals as goal
 
 pub returns : goal.returns
 returns c =
-    let start = c in
-    let a = start.args in
+    let a = c.args in
     let k = a.stopped.count in
-    let m : 17 * k + 17 * (a.due - k) ≡ 17 * a.due = omega (arith, start.requires.1.0) in
+    let m : 17 * k + 17 * (a.due - k) ≡ 17 * a.due = omega (arith, c.requires.1.0) in
     let done = c.run_padding.ensures in
     record {
-      ram_after = done.ram_after;
-      records_after = rest_back a.records.now (17 * k) (flat (recorded (frozen_at a.stopped.row) (a.due - k) (whole a.stopped.core a.regs.now a.ram.now))) (17 * (a.due - k)) _ done.records_after ∙ rw m refl;
+      cursor = done.cursor;
+      records = rest_back a.records.now (17 * k) (flat (recorded (frozen_at a.stopped.row) (a.due - k) (whole a.stopped.core a.regs.now a.ram.now))) (17 * (a.due - k)) _ done.records ∙ rw m refl;
     }

@@ -21,11 +21,10 @@ at_in c = rw c.loop-core.invariant.2 (next_of (cond c.loop-core.core.halted true
 pub loop-core-init : goal.loop-core-init
 unfolding end recorded flat
 loop-core-init c =
-    let start = c in
     let core = c.afresh-core in
     let e = core.ensures in (
-      record { pc = rw e start.requires.pc; fetch = rw e start.requires.fetch; few = λ h. omega (arith, start.requires.few_cycles h, ap (λ (k : Core). k.cycles) e); counted = rw (sub-zero start.args.limit) (sym (zero-add _)) },
-      record { state = refl; log = refl; long = refl; upto = omega arith; room = start.requires.fits; small = start.well_formed.1.1.1.1.1.0.1 },
+      record { pc = rw e c.requires.pc; fetch = rw e c.requires.fetch; few = λ h. omega (arith, c.requires.few_cycles h, ap (λ (k : Core). k.cycles) e); counted = rw (sub-zero c.args.limit) (sym (zero-add _)) },
+      record { state = refl; log = refl; long = refl; upto = omega arith; room = c.requires.fits; small = c.well_formed.1.1.1.1.1.0.1 },
       c.fetch_row-at.ensures ∙ ap (λ (b : Bool). cond b core.result.next_fetch core.result.micro_pc) c.is_over-over.ensures,
     )
 
@@ -52,19 +51,18 @@ shape_of-records-then-is_over c = c.loop-core.invariant.1.long
 
 pub returns-then-is_over : goal.returns-then-is_over
 returns-then-is_over c =
-    let start = c in
     let at-loop = c.loop-core in
-    let rows = start.args.rows.now in
+    let rows = c.args.rows.now in
     let over = sym c.is_over.ensures ∙ c.if-is_over.true in
-    let none = count_over rows at-loop.i start.args.limit (whole at-loop.core at-loop.regs at-loop.ram) over in
-    let c₀ = whole c.afresh-core.result start.args.regs.now start.args.ram.now in
-    let taken : at-loop.i ≡ live_count_of rows start.args.limit c₀ = omega (arith, at-loop.invariant.0.counted, none) in
+    let none = count_over rows at-loop.i c.args.limit (whole at-loop.core at-loop.regs at-loop.ram) over in
+    let c₀ = whole c.afresh-core.result c.args.regs.now c.args.ram.now in
+    let taken : at-loop.i ≡ live_count_of rows c.args.limit c₀ = omega (arith, at-loop.invariant.0.counted, none) in
     let here : at-loop.at ≡ at-loop.core.next_fetch = at-loop.invariant.2 ∙ rw over refl in
     rw (sym c.afresh-core.ensures) record {
-      count_value = taken;
-      row_value = c.rom_row-row.ensures ∙ ap (λ (p : MicroPc). row_at rows p.0) here;
-      ram_after = at-loop.invariant.1.state ∙ ap (λ (m : ℕ). end (live rows) m c₀) taken;
-      records_after = at-loop.invariant.1.log ∙ ap (λ (m : ℕ). flat (recorded (live rows) m c₀) ++ drop (17 * at-loop.i) start.args.records.now) taken;
+      count = taken;
+      row = c.rom_row-row.ensures ∙ ap (λ (p : MicroPc). row_at rows p.0) here;
+      cursor = at-loop.invariant.1.state ∙ ap (λ (m : ℕ). end (live rows) m c₀) taken;
+      records = at-loop.invariant.1.log ∙ ap (λ (m : ℕ). flat (recorded (live rows) m c₀) ++ drop (17 * at-loop.i) c.args.records.now) taken;
     }
 
 pub overflow_mul-base : goal.overflow_mul-base
@@ -94,19 +92,18 @@ loop-core-smaller c = omega (arith, (running (goal.at.loop-core-smaller c).Else-
 pub loop-core-preserved : goal.loop-core-preserved
 unfolding live
 loop-core-preserved c =
-    let start = c in
     let at-loop = c.loop-core in
-    let rows = start.args.rows.now in
+    let rows = c.args.rows.now in
     let now-at = whole at-loop.core at-loop.regs at-loop.ram in
     let run = running (goal.at.loop-core-preserved c).Else-is_over in
     let over = sym c.is_over.ensures ∙ c.if-is_over.false in
     let here : at-loop.at ≡ at-loop.core.micro_pc = at-loop.invariant.2 ∙ rw over refl in
     let row = c.rom_row-row.ensures ∙ ap (λ (p : MicroPc). row_at rows p.0) here in
     let done = c.live_cycle-next.ensures in
-    let after = done.ram_after ∙ ap (λ (r : RomRow). (step_at r (length rows) now-at).after) row in
+    let after = done.cursor ∙ ap (λ (r : RomRow). (step_at r (length rows) now-at).after) row in
     let k17 : 17 * at-loop.i + 17 - 17 * at-loop.i ≡ 17 = omega arith in
     rw c.afresh-core-in-loop-core.ensures (
-      rw after (live_on rows start.args.limit _ now-at at-loop.i at-loop.invariant.0 run.0 run.1),
-      going_on (live rows) start.args.limit start.args.records.now _ at-loop.records now-at at-loop.i at-loop.invariant.1 run.1 _ _ after (simp (k17, done.out_after, row)),
-      turn-kept rows now-at _ (at-loop.i + 1) start.args.limit after,
+      rw after (live_on rows c.args.limit _ now-at at-loop.i at-loop.invariant.0 run.0 run.1),
+      going_on (live rows) c.args.limit c.args.records.now _ at-loop.records now-at at-loop.i at-loop.invariant.1 run.1 _ _ after (simp (k17, done.shown, row)),
+      turn-kept rows now-at _ (at-loop.i + 1) c.args.limit after,
     )

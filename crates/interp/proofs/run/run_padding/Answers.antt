@@ -34,13 +34,12 @@ loop-i-smaller c = omega arith
 
 pub loop-i-preserved : goal.loop-i-preserved
 loop-i-preserved c =
-    let start = c in
     let at-loop = c.loop-i in
     let done = c.padding_cycle.ensures in
     let k17 : 17 * at-loop.i + 17 - 17 * at-loop.i ≡ 17 = omega arith in (
       at-loop.invariant.0,
-      going_on (frozen_at start.args.row) start.args.n start.args.records.now _ at-loop.records (whole start.args.core at-loop.regs at-loop.ram)
-          at-loop.i at-loop.invariant.1 c.loop-i-test.true _ _ done.ram_after (simp (k17, done.out_after)),
+      going_on (frozen_at c.args.row) c.args.n c.args.records.now _ at-loop.records (whole c.args.core at-loop.regs at-loop.ram)
+          at-loop.i at-loop.invariant.1 c.loop-i-test.true _ _ done.cursor (simp (k17, done.shown)),
     )
 
 pub shape_of-records : goal.shape_of-records
@@ -51,6 +50,6 @@ returns c =
     let at-loop = c.loop-i in
     let end : at-loop.i ≡ c.args.n = omega (arith, at-loop.invariant.1.upto, c.loop-i-test.false) in
     record {
-      ram_after = at-loop.invariant.1.state ∙ rw end refl;
-      records_after = at-loop.invariant.1.log ∙ rw end refl;
+      cursor = at-loop.invariant.1.state ∙ rw end refl;
+      records = at-loop.invariant.1.log ∙ rw end refl;
     }

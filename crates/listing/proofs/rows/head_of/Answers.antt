@@ -3,18 +3,15 @@ use Rattle.listing.proofs.rows.head_of.Goals as goal
 
 pub returns-then-line-ne43 : goal.returns-then-line-ne43
 returns-then-line-ne43 c =
-    let r = c in
-    simp (← r.parsed_word.ensures, r.in-Number.is, ne_eqb _ _ c.if-line-ne43.true)
+    simp (← c.parsed_word.ensures, c.in-Number.is, ne_eqb _ _ c.if-line-ne43.true)
 
 pub returns-then-line-ne48 : goal.returns-then-line-ne48
 returns-then-line-ne48 c =
-    let r = c in
-    simp (← r.parsed_word.ensures, r.in-Number.is, eq-eqb _ _ c.if-line-ne43.false, ne_eqb _ _ c.if-line-ne48.true)
+    simp (← c.parsed_word.ensures, c.in-Number.is, eq-eqb _ _ c.if-line-ne43.false, ne_eqb _ _ c.if-line-ne48.true)
 
 pub returns : goal.returns
 returns c =
-    let r = c in
-    simp (← r.parsed_word.ensures, r.in-Number.is, eq-eqb _ _ c.if-line-ne43.false, eq-eqb _ _ c.if-line-ne48.false)
+    simp (← c.parsed_word.ensures, c.in-Number.is, eq-eqb _ _ c.if-line-ne43.false, eq-eqb _ _ c.if-line-ne48.false)
 
 pub returns-in_default : goal.returns-in_default
 returns-in_default c = simp (← c.parsed_word.ensures, c.in_default.is)

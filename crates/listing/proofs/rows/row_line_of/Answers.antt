@@ -5,8 +5,5 @@ use Rattle.listing.proofs.rows.row_line_of.Goals as goal
 
 pub returns : goal.returns
 returns c =
-    let f = c in
-    let b = f in
-    let r = b in
-    row_made r.rom_row-r.result r.args.distance b.blank_row-line.ensures f.put_fields.ensures c.put_digits.ensures
-    ∙ ap (λ row. line_of_row row r.args.distance) r.rom_row-r.ensures
+    row_made c.rom_row-r.result c.args.distance c.blank_row-line.ensures c.put_fields.ensures c.put_digits.ensures
+    ∙ ap (λ row. line_of_row row c.args.distance) c.rom_row-r.ensures
