@@ -63,31 +63,20 @@ pub extern "C" fn magnetar_expand(
 pub extern "C" fn magnetar_is_expansion(rows: &[u64]) -> u64
     ensures { result ≡ bool_word (is_expansion rows.now) }
 {
-    if expand::is_expansion(rows) { 1 } else { 0 }
+    u64::from(expand::is_expansion(rows))
 }
 
 // ---- cursors
 
-// Copies n words, from place a of `from` on to place b of `to` on.
-fn copy(from: &[u64], a: usize, to: &mut [u64], b: usize, n: usize)
-    requires { (a + n ≤ length from.now) × (b + n ≤ length to.old) }
-    ensures { to.new ≡ paste to.old b (drop a from.now) n }
-{
-    let mut i: usize = 0;
-    while i < n {
-        to[b + i] = from[a + i];
-        i += 1;
-    }
-}
-
 // The cursor of an image.
+#[tactic(auto, unfolding(crate::specs::Image::cursor_of))]
 fn read_cursor(image: &[u64; IMAGE_WORDS]) -> Cursor
     ensures { result ≡ cursor_of image.now }
 {
     let mut regs = [0u64; Cursor::REGS];
-    copy(image, 0, &mut regs, 0, Cursor::REGS);
+    regs.copy_from_slice(&image[..Cursor::REGS]);
     let mut ram = [0u64; Cursor::RAM_WORDS];
-    copy(image, Cursor::REGS, &mut ram, 0, Cursor::RAM_WORDS);
+    ram.copy_from_slice(&image[Cursor::REGS..MICRO_PC]);
     Cursor {
         regs: regs,
         ram: ram,
@@ -100,16 +89,20 @@ fn read_cursor(image: &[u64; IMAGE_WORDS]) -> Cursor
 }
 
 // Writes the image of a cursor.
+#[tactic(auto, unfolding(crate::specs::Image::image_of))]
 fn write_cursor(c: Cursor, image: &mut [u64; IMAGE_WORDS])
     ensures { image.new ≡ image_of c }
 {
-    copy(&c.regs, 0, image, 0, Cursor::REGS);
-    copy(&c.ram, 0, image, Cursor::REGS, Cursor::RAM_WORDS);
-    image[MICRO_PC] = c.micro_pc.0 as u64;
-    image[CYCLES] = c.cycles;
-    image[HALTED] = c.halted as u64;
-    image[OUTPUT] = c.output;
-    image[NEXT_FETCH] = c.next_fetch.0 as u64;
+    image[..Cursor::REGS].copy_from_slice(&c.regs);
+    image[Cursor::REGS..MICRO_PC].copy_from_slice(&c.ram);
+    let numbers = [
+        c.micro_pc.0 as u64,
+        c.cycles,
+        c.halted as u64,
+        c.output,
+        c.next_fetch.0 as u64,
+    ];
+    image[MICRO_PC..].copy_from_slice(&numbers);
 }
 
 // The number of an outcome. If it is 0, the cursor goes to `image`; if not, `image` stays as it was.
