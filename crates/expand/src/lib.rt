@@ -20,15 +20,15 @@ pub const SHIFT_STAGES: usize = 6;
 pub const MAX_PROGRAM_WORDS: usize = 1048576;
 
 // A row position: the source's micro-PC.
-#[derive(Clone, Copy)]
+#[derive(Clone, Copy, Debug, PartialEq, Eq)]
 pub struct MicroPc(pub usize);
 
 // A program position: the source's index of an instruction.
-#[derive(Clone, Copy)]
+#[derive(Clone, Copy, Debug, PartialEq, Eq)]
 pub struct InstPos(pub usize);
 
 // The kind of a row.
-#[derive(Clone, Copy)]
+#[derive(Clone, Copy, Debug, PartialEq, Eq)]
 pub enum VirtualKind {
     // A full ALU operation, register or immediate form.
     Alu,
@@ -46,7 +46,7 @@ pub enum VirtualKind {
 }
 
 // A row of the ROM, taken apart.
-#[derive(Clone, Copy)]
+#[derive(Clone, Copy, Debug, PartialEq, Eq)]
 pub struct RomRow {
     pub kind: VirtualKind,
     pub rd: usize,
@@ -60,7 +60,7 @@ pub struct RomRow {
 }
 
 // Why a program is not expanded.
-#[derive(Clone, Copy)]
+#[derive(Clone, Copy, Debug, PartialEq, Eq)]
 pub enum Refusal {
     // 1: the program has no words, so it has no rows.
     NoRows,
@@ -70,31 +70,17 @@ pub enum Refusal {
     Short,
 }
 
-impl Refusal {
-    // Its number in document 01's table.
-    pub fn number(self) -> u64
-        ensures { result ≡ expand_refusal_number self }
-    {
-        match self {
+// Its number in document 01's table.
+impl From<Refusal> for u64 {
+    ghost from_gives = { λ why number. number ≡ expand_refusal_number why };
+
+    fn from(why: Refusal) -> u64 {
+        match why {
             Refusal::NoRows => 1,
             Refusal::TooManyRows => 2,
             Refusal::Short => 6,
         }
     }
-}
-
-// The answer of `expand_program`: the count of rows, or a refusal.
-#[derive(Clone, Copy)]
-pub enum Expanded {
-    Rows(usize),
-    Refused(Refusal),
-}
-
-// Where an instruction's rows start, or that the program has no such instruction.
-#[derive(Clone, Copy)]
-pub enum Start {
-    At(MicroPc),
-    Past,
 }
 
 // The register that a stage writes: the last of them writes rd, the others none.
@@ -260,16 +246,12 @@ pub fn rom_row(word: u64) -> RomRow
     row_of_inst(decode::decode(raw), stage)
 }
 
-// The row position of an instruction's first row, by the starts of an expansion.
-pub fn inst_to_micro(starts: &[u64], at: InstPos) -> Start
+// The row position of an instruction's first row, by the starts of an expansion; none where the program has no such instruction.
+pub fn inst_to_micro(starts: &[u64], at: InstPos) -> Option<MicroPc>
     ensures { result ≡ start_at starts.now at }
 {
-    let i = at.0;
-    if i < starts.len() {
-        Start::At(MicroPc(starts[i] as usize))
-    } else {
-        Start::Past
-    }
+    let start = starts.get(at.0)?;
+    Some(MicroPc(*start as usize))
 }
 
 // Whether the lower half of a row word is a register shift: opcode 0x33 with funct3 1 or 5. One mask and no call of the
@@ -386,26 +368,36 @@ fn fill(program: &[u32], rows: &mut [u64], starts: &mut [u64])
     }
 }
 
+// The count of a program's rows, or why it is not expanded, by the places that it is lent.
+#[tactic(auto, unfolding(crate::specs::Expand::expand_refusal_of))]
+fn counted(program: &[u32], rows: &[u64], starts: &[u64]) -> Result<usize, Refusal>
+    ensures { expand_told_of result ≡ expand_answer_of program.now rows.now starts.now }
+{
+    if program.is_empty() {
+        return Err(Refusal::NoRows);
+    }
+    if MAX_PROGRAM_WORDS < program.len() {
+        return Err(Refusal::TooManyRows);
+    }
+    let count = count_rows(program);
+    if rows.len() < count || starts.len() < program.len() {
+        return Err(Refusal::Short);
+    }
+    Ok(count)
+}
+
 // Expands a program: its row words go to the first places of `rows`, the row position of each word's first row to those
 // of `starts`. Rows are counted before the first write, so that a refusal writes nothing.
-pub fn expand_program(program: &[u32], rows: &mut [u64], starts: &mut [u64]) -> Expanded
+pub fn expand_program(
+    program: &[u32],
+    rows: &mut [u64],
+    starts: &mut [u64],
+) -> Result<usize, Refusal>
     ensures answer { expand_told_of result ≡ expand_answer_of program.now rows.old starts.old }
     ensures rows { rows.new ≡ rows_after program.now rows.old starts.old }
     ensures starts { starts.new ≡ starts_after program.now rows.old starts.old }
 {
-    if program.len() == 0 {
-        return Expanded::Refused(Refusal::NoRows);
-    }
-    if MAX_PROGRAM_WORDS < program.len() {
-        return Expanded::Refused(Refusal::TooManyRows);
-    }
-    let n = count_rows(program);
-    if rows.len() < n {
-        return Expanded::Refused(Refusal::Short);
-    }
-    if starts.len() < program.len() {
-        return Expanded::Refused(Refusal::Short);
-    }
+    let n = counted(program, rows, starts)?;
     fill(program, rows, starts);
-    Expanded::Rows(n)
+    Ok(n)
 }
