@@ -5,8 +5,6 @@ use mathlib.Core.List.{List}
 use Prim.Native.Nat.{ℕ}
 use borrow.Author.Tests.{ne_eqb}
 use Rattle.expand.specs.Expand.{expand_refusal_number, Told, expand_told_of}
-use Rattle.expand.specs.declared.Expanded.{Expanded}
-use Rattle.expand.specs.declared.Expanded.TheVariants.{Rows, Refused}
 use Rattle.expand.specs.declared.Refusal.{Refusal}
 use Rattle.expand.specs.declared.Refusal.TheVariants.{NoRows, TooManyRows, Short}
 use Rattle.interp.specs.declared.Cursor.{Cursor}
@@ -14,18 +12,18 @@ use Rattle.magnetar_cpu.specs.Words.{left_after, count_after}
 use Rattle.magnetar_cpu.specs.Image.{image_of}
 
 -- the number and the count's word, of an answer r that tells t
-module _ (r : Expanded) (t : Told) (count : ℕ) (tells : expand_told_of r ≡ t) where
-  pub accepted : (n : ℕ) → r ≡ Rows n → (0 ≡ t.number) × (n ≡ count_after t count)
+module _ (r : Result ℕ Refusal) (t : Told) (count : ℕ) (tells : expand_told_of r ≡ t) where
+  pub accepted : (n : ℕ) → r ≡ Ok n → (0 ≡ t.number) × (n ≡ count_after t count)
   accepted n e =
-      let h : expand_told_of (Rows n) ≡ t = ap expand_told_of (sym e) ∙ tells in
+      let h : expand_told_of (Ok n) ≡ t = ap expand_told_of (sym e) ∙ tells in
       (ap (λ (u : Told). u.number) h, ap (λ (u : Told). count_after u count) h)
 
-  pub refused : (e : Refusal) → r ≡ Refused e → (expand_refusal_number e ≡ t.number) × (count ≡ count_after t count)
+  pub refused : (e : Refusal) → r ≡ Err e → (expand_refusal_number e ≡ t.number) × (count ≡ count_after t count)
   refused e q =
-      let h : expand_told_of (Refused e) ≡ t = ap expand_told_of (sym q) ∙ tells in
+      let h : expand_told_of (Err e) ≡ t = ap expand_told_of (sym q) ∙ tells in
       (ap (λ (u : Told). u.number) h, kept e ∙ ap (λ (u : Told). count_after u count) h)
     where
-      kept : (e : Refusal) → count ≡ count_after (expand_told_of (Refused e)) count
+      kept : (e : Refusal) → count ≡ count_after (expand_told_of (Err e)) count
       kept NoRows = refl
       kept TooManyRows = refl
       kept Short = refl

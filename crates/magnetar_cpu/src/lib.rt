@@ -16,7 +16,7 @@ ghost use Rattle.magnetar_cpu.specs.Words.{left_after, count_after, live_after, 
 ghost use Rattle.magnetar_cpu.specs.Image.{image_words, cursor_of, image_of, image_after, executed_image};
 ghost use Rattle.magnetar_cpu.specs.Claims.{ImageLaws};
 
-use expand::{Expanded, MicroPc};
+use expand::MicroPc;
 use interp::{Cursor, Outcome};
 
 // The places of a cursor's numbers in its image, behind its registers and RAM. Any halted word but 0 is a halted machine; 0
@@ -50,11 +50,11 @@ pub extern "C" fn magnetar_expand(
     ensures starts { starts.new ≡ starts_after program.now rows.old starts.old }
 {
     match expand::expand_program(program, rows, starts) {
-        Expanded::Rows(n) => {
+        Ok(n) => {
             *count = n as u64;
             0
         }
-        Expanded::Refused(e) => e.number(),
+        Err(why) => u64::from(why),
     }
 }
 
