@@ -8,7 +8,7 @@ ghost use Rattle.std.proofs.Math.Seq.{paste};
 ghost use Rattle.expand.specs.Expand.{expand_answer_of, rows_after, starts_after, is_expansion};
 ghost use Rattle.interp.specs.Values.{bool_word};
 ghost use Rattle.interp.specs.Machine.{start_of};
-ghost use Rattle.interp.specs.Calls.{segment, padded, outcome_number};
+ghost use Rattle.interp.specs.Calls.{segment, padded, call_of};
 ghost use Rattle.interp.specs.Calls as calls;
 ghost use Rattle.interp.specs.Execute.{execute_of};
 ghost use Rattle.checkpoint.specs.Checkpoint.{same_of};
@@ -17,7 +17,7 @@ ghost use Rattle.magnetar_cpu.specs.Image.{image_words, cursor_of, image_of, ima
 ghost use Rattle.magnetar_cpu.specs.Claims.{ImageLaws};
 
 use expand::MicroPc;
-use interp::{Cursor, Outcome};
+use interp::{Cursor, Request};
 
 // The places of a cursor's numbers in its image, behind its registers and RAM. Any halted word but 0 is a halted machine; 0
 // or 1 is written.
@@ -33,6 +33,9 @@ const NEXT_FETCH: usize = MICRO_PC + 4;
 
 // The words of an image.
 const IMAGE_WORDS: usize = MICRO_PC + 5;
+
+// The number of a call that is not refused.
+const ACCEPTED: u64 = 0;
 
 // Expands a program: its row words go to the first places of `rows`, the position of each word's first row to those of
 // `starts`, and the count of rows to `count`. 1: no words; 2: more than 1,048,576 words; 6: `rows` is shorter than the
@@ -52,7 +55,7 @@ pub extern "C" fn magnetar_expand(
     match expand::expand_program(program, rows, starts) {
         Ok(n) => {
             *count = n as u64;
-            0
+            ACCEPTED
         }
         Err(why) => u64::from(why),
     }
@@ -105,16 +108,27 @@ fn write_cursor(c: Cursor, image: &mut [u64; IMAGE_WORDS])
     image[MICRO_PC..].copy_from_slice(&numbers);
 }
 
-// The number of an outcome. If it is 0, the cursor goes to `image`; if not, `image` stays as it was.
-fn settle(outcome: Outcome, after: Cursor, image: &mut [u64; IMAGE_WORDS]) -> u64
-    ensures answer { result ≡ outcome_number outcome }
-    ensures image { image.new ≡ left_after (outcome_number outcome) (image_of after) image.old }
+// Runs a call on the cursor of an image, and answers its number. The cursor after an accepted one goes to `image`; a refused
+// one leaves `image` as it was.
+fn run_call(
+    rows: &[u64],
+    image: &mut [u64; IMAGE_WORDS],
+    request: Request,
+    records: &mut [u64],
+) -> u64
+    ensures answer { result ≡ (calls.answer_of rows.now (cursor_of image.old) (call_of request records.old)).number }
+    ensures cursor { image.new ≡ image_after (calls.answer_of rows.now (cursor_of image.old) (call_of request records.old)) image.old }
+    ensures records { records.new ≡ (calls.answer_of rows.now (cursor_of image.old) (call_of request records.old)).buffer }
 {
-    if let Outcome::Refused(e) = outcome {
-        return e.number();
+    let before = read_cursor(image);
+    let answer = interp::run_call(rows, before, request, records);
+    match answer.outcome {
+        Ok(()) => {
+            write_cursor(answer.cursor, image);
+            ACCEPTED
+        }
+        Err(why) => u64::from(why),
     }
-    write_cursor(after, image);
-    0
 }
 
 // Writes the fresh cursor to `cursor`: all words 0, but RAM holds the first 256 words of `input`, and 0 after them. It
@@ -141,11 +155,7 @@ pub extern "C" fn magnetar_segment(
     ensures cursor { cursor.new ≡ image_after (calls.answer_of rows.now (cursor_of cursor.old) (segment length records.old)) cursor.old }
     ensures records { records.new ≡ (calls.answer_of rows.now (cursor_of cursor.old) (segment length records.old)).buffer }
 {
-    let before = read_cursor(cursor);
-    let answer = interp::run_segment(rows, before, length, records);
-    let outcome = answer.outcome;
-    let after = answer.cursor;
-    settle(outcome, after, cursor)
+    run_call(rows, cursor, Request::Segment(length), records)
 }
 
 // The padding call: `length` padding cycles at row next_fetch, also on a live machine. Records, cursor and refusals are
@@ -161,11 +171,7 @@ pub extern "C" fn magnetar_padding(
     ensures cursor { cursor.new ≡ image_after (calls.answer_of rows.now (cursor_of cursor.old) (padded length records.old)) cursor.old }
     ensures records { records.new ≡ (calls.answer_of rows.now (cursor_of cursor.old) (padded length records.old)).buffer }
 {
-    let before = read_cursor(cursor);
-    let answer = interp::pad_records(rows, before, length, records);
-    let outcome = answer.outcome;
-    let after = answer.cursor;
-    settle(outcome, after, cursor)
+    run_call(rows, cursor, Request::Padding(length), records)
 }
 
 // Execute: from the fresh cursor of `input`, live cycles until the machine halts, at most `max_cycles`, and then padding up to
@@ -189,15 +195,15 @@ pub extern "C" fn magnetar_execute(
     ensures cursor { cursor.new ≡ executed_image (execute_of rows.now input.now max_cycles records.old) cursor.old }
     ensures records { records.new ≡ (execute_of rows.now input.now max_cycles records.old).buffer }
 {
-    let answer = interp::execute(rows, input, max_cycles, records);
-    let outcome = answer.outcome;
-    let after = answer.cursor;
-    let number = settle(outcome, after, cursor);
-    if number == 0 {
-        *live = answer.live_count;
-        *record_count = answer.record_count;
+    match interp::execute(rows, input, max_cycles, records) {
+        Ok(ran) => {
+            write_cursor(ran.cursor, cursor);
+            *live = ran.live_count;
+            *record_count = ran.record_count;
+            ACCEPTED
+        }
+        Err(why) => u64::from(why),
     }
-    number
 }
 
 // ---- images
@@ -210,11 +216,7 @@ pub extern "C" fn magnetar_same(a: &[u64; IMAGE_WORDS], b: &[u64; IMAGE_WORDS]) 
 {
     let first = read_cursor(a);
     let second = read_cursor(b);
-    if checkpoint::same_checkpoint(first, second) {
-        1
-    } else {
-        0
-    }
+    u64::from(checkpoint::same_checkpoint(first, second))
 }
 
 // The words of a cursor's image, for a caller who compares them with his header.
