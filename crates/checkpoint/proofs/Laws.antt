@@ -1,69 +1,50 @@
 -- What a turn of the loop does, and that the definition says "exactly". Assumes nothing.
 use mathlib.Core.Path.{◌≡◌, refl, sym, ap, ◌∙◌}
-use mathlib.Core.Bool.{Bool, beq, true, false, ◌&&◌, and-eq-true_iff, false≢true, true≢false}
-use mathlib.Core.List.{List, [], ◌∷◌}
-use Prim.Native.Nat.{ℕ, suc, ◌≤◌, ◌<◌}
+use mathlib.Core.Bool.{Bool, beq, true, false, ◌&&◌, false≢true}
+use Rattle.std.specs.Cmp.{booleans_Decides}
+use mathlib.Core.List.{List}
+use Prim.Native.Nat.{ℕ, ◌-◌}
+use Rattle.std.proofs.Common.{rules, nat_eq}
+use Rattle.std.specs.Bool.{Decides}
+use Rattle.std.specs.Cmp.Lexicographic.{pointwise}
+use Rattle.std.proofs.lemmas.Bool.Decides.{same_from_decides}
+use Rattle.std.proofs.lemmas.Slice.Eq.{compares_Decides, bytes_eq-Decides}
+use Rattle.std.proofs.lemmas.List.{take_rest}
 use lib.Dec.{eqb}
-use lib.ListN.{length, drop, get_or, drop_of_length-le}
-use lib.Seq.{drop-cons}
-use borrow.Author.Tests.{eqb-true, eq-eqb, ne_eqb}
+use lib.ListN.{length, take, drop}
+use borrow.Author.Tests.{eqb-true, eq-eqb}
 use Rattle.expand.specs.declared.MicroPc.{MicroPc}
 use Rattle.interp.specs.declared.Cursor.{Cursor}
 use Rattle.interp.specs.Machine.{at}
 use Rattle.checkpoint.specs.Checkpoint.{agree, same_of}
 use Rattle.checkpoint.specs.Claims.{Same, Exact}
 
--- ---- the loop
+-- ---- words
 
-module _ (xs ys : List ℕ) (i : ℕ) where
-  -- the words at i are the same: the lists from there on agree where they do after it
-  pub agree_on : i < length xs → i < length ys → get_or xs i 0 ≡ get_or ys i 0
-      → agree (drop i xs) (drop i ys) ≡ agree (drop (suc i) xs) (drop (suc i) ys)
-  unfolding agree
-  agree_on hx hy e = rw (drop-cons xs i 0 hx, drop-cons ys i 0 hy, eq-eqb _ _ e)
+agree_Decides : (xs ys : List ℕ) → Decides (agree xs ys) (xs ≡ ys)
+unfolding agree
+agree_Decides = compares_Decides agree (search rules)
 
-  -- they differ: the lists do not agree
-  pub agree_off : i < length xs → i < length ys → (get_or xs i 0 ≡ get_or ys i 0 → ⊥) → agree (drop i xs) (drop i ys) ≡ false
-  unfolding agree
-  agree_off hx hy n = rw (drop-cons xs i 0 hx, drop-cons ys i 0 hy, ne_eqb _ _ n)
+-- what `==` ensures
+pub agree_equals : (xs ys : List ℕ) → pointwise nat_eq xs ys ≡ agree xs ys
+agree_equals xs ys = same_from_decides (pointwise nat_eq xs ys) (agree xs ys) (bytes_eq-Decides xs ys) (agree_Decides xs ys)
 
-  -- no word is left
-  pub agree-end : length xs ≤ i → length ys ≤ i → agree (drop i xs) (drop i ys) ≡ true
-  unfolding agree
-  agree-end hx hy = rw (drop_of_length-le xs hx, drop_of_length-le ys hy)
+-- and of slices that begin at `from`
+pub agree_slices : (xs ys : List ℕ) (from : ℕ)
+    → pointwise nat_eq (take (length xs - from) (drop from xs)) (take (length ys - from) (drop from ys)) ≡ agree (drop from xs) (drop from ys)
+agree_slices xs ys from = rw (take_rest, take_rest) (agree_equals (drop from xs) (drop from ys))
+
+-- `same_of`, test by test: each answer is made from the one before
+pub same_step_by_step : (a b : Cursor) (two three four : Bool) {five : Bool}
+    → two ≡ (eqb a.micro_pc.0 b.micro_pc.0 && beq a.halted b.halted)
+    → three ≡ (two && eqb a.output b.output)
+    → four ≡ (three && agree (drop 1 a.regs) (drop 1 b.regs))
+    → five ≡ (four && agree a.ram b.ram)
+    → five ≡ same_of a b
+unfolding same_of
+same_step_by_step a b two three four e f g h = h ∙ rw (g, f, e)
 
 -- ---- exactly
-
-agree-only : (xs ys : List ℕ) → agree xs ys ≡ true → xs ≡ ys
-unfolding agree
-agree-only [] [] e = refl
-agree-only [] (y ∷ ys) e = absurd (false≢true e)
-agree-only (x ∷ xs) [] e = absurd (false≢true e)
-agree-only (x ∷ xs) (y ∷ ys) e =
-    let p = (and-eq-true_iff (eqb x y) (agree xs ys)).0 e in
-    let h : x ≡ y = eqb-true x y p.0 in
-    let t : xs ≡ ys = agree-only xs ys p.1 in
-    cc
-
-agree_refl : (xs : List ℕ) → agree xs xs ≡ true
-unfolding agree
-agree_refl [] = refl
-agree_refl (x ∷ xs) = rw (eq-eqb x x refl) (agree_refl xs)
-
-agree-if : (xs ys : List ℕ) → xs ≡ ys → agree xs ys ≡ true
-agree-if xs ys e = rw e (agree_refl ys)
-
-beq_only : (x y : Bool) → beq x y ≡ true → x ≡ y
-beq_only true true e = refl
-beq_only true false e = absurd (false≢true e)
-beq_only false true e = absurd (false≢true e)
-beq_only false false e = refl
-
-beq_if : (x y : Bool) → x ≡ y → beq x y ≡ true
-beq_if true true e = refl
-beq_if true false e = absurd (true≢false e)
-beq_if false true e = absurd (false≢true e)
-beq_if false false e = refl
 
 -- five tests that all hold
 five : (p q r s t : Bool) → (p && q && r && s && t) ≡ true
@@ -80,10 +61,10 @@ same_only a b e =
     let (pc, halted, output, registers, ram) = five _ _ _ _ _ e in
     record {
       micro_pc = ap at (eqb-true _ _ pc);
-      halted = beq_only _ _ halted;
+      halted = (booleans_Decides _ _).0 halted;
       output = eqb-true _ _ output;
-      registers = agree-only _ _ registers;
-      ram = agree-only _ _ ram;
+      registers = (agree_Decides _ _).0 registers;
+      ram = (agree_Decides _ _).0 ram;
     }
 
 same_if : (a b : Cursor) → Same a b → same_of a b ≡ true
@@ -91,10 +72,10 @@ unfolding same_of
 same_if a b h =
     simp (
       eq-eqb _ _ (ap (λ (m : MicroPc). m.0) h.micro_pc),
-      beq_if _ _ h.halted,
+      (booleans_Decides _ _).1 h.halted,
       eq-eqb _ _ h.output,
-      agree-if _ _ h.registers,
-      agree-if _ _ h.ram,
+      (agree_Decides _ _).1 h.registers,
+      (agree_Decides _ _).1 h.ram,
     )
 
 same_sym : (a b : Cursor) → Same a b → Same b a
