@@ -1,19 +1,15 @@
 -- Laws on words that are copied, and on the image of a cursor. Assumes nothing.
-use mathlib.Core.Path.{◌≡◌, refl, sym, ap, ap₂, ◌∙◌}
+use mathlib.Core.Path.{◌≡◌, refl, ap, ap₂, ◌∙◌}
 use mathlib.Core.Bool.{Bool, true, false}
 use mathlib.Core.List.{List, ◌++◌, append-nil}
-use Prim.Native.Nat.{ℕ, ◌+◌, ◌<◌}
-use native.Mathlib.Nat.{zero-add}
-use native.Mathlib.Numerals.{add-one}
+use Prim.Native.Nat.{ℕ}
 use native.Mathlib.Omega.{arith}
 use mir.Val.{bool_byte}
 use lib.ListN.{length, take, drop, length-drop}
 use borrow.Rule.Slice.PartMut.{put_mid, post_of}
 use Rattle.std.proofs.lemmas.Slice.{take-put_mid, drop-put_mid}
 use Rattle.std.proofs.lemmas.List.{drop_all, take-append-le, take_all, length-append}
-use Rattle.interp.specs.declared.Cursor.{Cursor}
 use Rattle.interp.specs.Values.{bool_word}
-use Rattle.magnetar_cpu.specs.Image.{image_words, numbers_of, image_of}
 
 -- r, s and vs written one behind the other over all of d
 module _ (d r s vs : List ℕ) (hd : length d ≡ 325) (hr : length r ≡ 64) (hs : length s ≡ 256) (hv : length vs ≡ 5) where
@@ -37,4 +33,3 @@ module _ (d r s vs : List ℕ) (hd : length d ≡ 325) (hr : length r ≡ 64) (h
 pub cast : (b : Bool) → bool_byte b ≡ bool_word b
 cast true = refl
 cast false = refl
-

@@ -14,8 +14,8 @@ returns c =
     let from = c.args.c in
     let image = c.args.image.now in
     let numbers : c.copy_from_slice-3.new.self ≡ numbers_of from =
-            c.copy_from_slice-3.ensures.after
-            ∙ ap (λ (h : ℕ). from.micro_pc.0 ∷ from.cycles ∷ h ∷ from.output ∷ from.next_fetch.0 ∷ []) (cast from.halted)
+    c.copy_from_slice-3.ensures.after
+    ∙ ap (λ (h : ℕ). from.micro_pc.0 ∷ from.cycles ∷ h ∷ from.output ∷ from.next_fetch.0 ∷ []) (cast from.halted)
     in
     ap₂ (λ (a b : List ℕ). put_mid 320 5 (put_mid 64 256 (a ++ post_of 0 64 image) c.copy_from_slice-2.new.self) b) c.copy_from_slice.ensures.after numbers
     ∙ ap (λ (l : List ℕ). put_mid 320 5 (put_mid 64 256 (from.regs ++ post_of 0 64 image) l) (numbers_of from)) c.copy_from_slice-2.ensures.after
