@@ -1,12 +1,17 @@
 -- What an answer of a read means, and how much of a buffer it fills. Assumes nothing: these are definitions.
-use Rattle.std.specs.Prelude.{ℕ, ◌≡◌, ◌≤◌, min, List, length, take, Result, Ok, Err, None, Some}
+use Rattle.std.specs.Prelude.{ℕ, ◌≡◌, ◌≤◌, min, List, length, take, Result, Ok, Err}
 use Rattle.std.specs.declared.io.Error.{Error}
-use Rattle.input.specs.declared.Filled.{Filled}
+use Rattle.input.specs.declared.Broken.{Broken}
+
+-- the bytes that came: all of an answer, or those before a read that failed
+abbrev pub count_of : Result ℕ Broken → ℕ
+count_of (Ok n) = n
+count_of (Err broken) = broken.count
 
 -- of a buffer of n bytes: an error is a failure; anything else is a count, taken as n where it is larger
-abbrev pub outcome_of : Result ℕ Error → ℕ → Filled
-outcome_of (Ok k) n = record { count = min k n; failed = None }
-outcome_of (Err why) n = record { count = 0; failed = Some why }
+abbrev pub outcome_of : Result ℕ Error → ℕ → Result ℕ Broken
+outcome_of (Ok k) n = Ok (min k n)
+outcome_of (Err why) n = Err (record { count = 0; why = why })
 
 -- `&xs[..n]` is in bounds and has n bytes. The second part follows from the first, and spares a caller's `&buf[..n]` a proof file.
 abbrev pub IsPrefixLen : ℕ → List ℕ → Type 0

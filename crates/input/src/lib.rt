@@ -2,90 +2,88 @@
 // name.
 #![tactic(auto)]
 
-ghost use Rattle.std.specs.Prelude.{◌≡◌, ◌<◌, IsNone, length, take};
+ghost use Rattle.std.specs.Prelude.{◌≡◌, ◌<◌, IfOk, length, take};
 ghost use Rattle.std.specs.Io.KnownBytes.{Consumes, IsAtEnd};
-ghost use Rattle.input.specs.Input.{IsPrefixLen, outcome_of};
+ghost use Rattle.input.specs.Input.{IsPrefixLen, count_of, outcome_of};
 
 use std::env::{Env, FillError};
 use std::io::{ErrorKind, Print, Read, Stderr, Write};
 use std::rt::Files;
 use std::{fs, io, str};
 
-// How many bytes came, and why the read after them failed, if it did.
+// A read that failed: how many bytes came before it, and why it failed.
 #[derive(Clone, Copy)]
-pub struct Filled {
+pub struct Broken {
     pub count: usize,
-    pub failed: Option<io::Error>,
+    pub why: io::Error,
 }
 
-// A file open for reading, and how long its name is; no file where it cannot be opened.
-#[derive(Drop)]
-pub struct Opened<F> {
-    pub file: Option<F>,
-    pub length: usize,
-}
+impl From<Broken> for io::Error {
+    ghost from_gives = { λ b e. e ≡ b.why };
 
-// What a read into `buf` that answered `got` comes to.
-fn outcome(got: io::Result<usize>, buf: &[u8]) -> Filled
-    ensures prefix_len { IsPrefixLen result.count buf.now }
-    ensures value { result ≡ outcome_of got (length buf.now) }
-{
-    match got {
-        Ok(n) => Filled {
-            count: n.min(buf.len()),
-            failed: None,
-        },
-        Err(why) => Filled {
-            count: 0,
-            failed: Some(why),
-        },
+    fn from(b: Broken) -> io::Error {
+        b.why
     }
 }
 
-fn read_once<R: Read>(reader: &mut R, buf: &mut [u8]) -> Filled
-    ensures prefix_len { IsPrefixLen result.count buf.new }
-    ensures bytes { Consumes (R.remaining reader.old) (R.remaining reader.new) (take result.count buf.new) }
-    ensures end { IsNone result.failed → result.count ≡ 0 → 0 < length buf.new → IsAtEnd (R.remaining reader.new) }
+// What a read into `buf` that answered `got` comes to.
+fn outcome(got: io::Result<usize>, buf: &[u8]) -> Result<usize, Broken>
+    ensures prefix_len { IsPrefixLen (count_of result) buf.now }
+    ensures value { result ≡ outcome_of got (length buf.now) }
+{
+    match got {
+        Ok(n) => Ok(n.min(buf.len())),
+        Err(why) => Err(Broken { count: 0, why }),
+    }
+}
+
+fn read_once<R: Read>(reader: &mut R, buf: &mut [u8]) -> Result<usize, Broken>
+    ensures prefix_len { IsPrefixLen (count_of result) buf.new }
+    ensures bytes { Consumes (R.remaining reader.old) (R.remaining reader.new) (take (count_of result) buf.new) }
+    ensures end { IfOk result (λ n. n ≡ 0 → 0 < length buf.new → IsAtEnd (R.remaining reader.new)) }
 {
     let got = reader.read(buf);
     outcome(got, buf)
 }
 
-// Reads until `buf` is full, the input ends or a read fails. Of a reader whose bytes are known, these
-// stand in `buf`, and where no failed read is told, fewer than it holds come only at their end.
-pub fn fill<R: Read>(reader: &mut R, buf: &mut [u8]) -> Filled
-    ensures prefix_len { IsPrefixLen result.count buf.new }
-    ensures bytes { Consumes (R.remaining reader.old) (R.remaining reader.new) (take result.count buf.new) }
-    ensures end { IsNone result.failed → result.count < length buf.new → IsAtEnd (R.remaining reader.new) }
+// Reads until `buf` is full, the input ends or a read fails, and answers how many bytes came. Of a
+// reader whose bytes are known, these stand in `buf`, and where no failed read is told, fewer than it
+// holds come only at their end.
+pub fn fill<R: Read>(reader: &mut R, buf: &mut [u8]) -> Result<usize, Broken>
+    ensures prefix_len { IsPrefixLen (count_of result) buf.new }
+    ensures bytes { Consumes (R.remaining reader.old) (R.remaining reader.new) (take (count_of result) buf.new) }
+    ensures end { IfOk result (λ n. n < length buf.new → IsAtEnd (R.remaining reader.new)) }
 {
     let mut have = 0;
     while have < buf.len() {
-        let part = read_once(reader, &mut buf[have..]);
-        if part.count == 0 {
-            return Filled {
-                count: have,
-                failed: part.failed,
-            };
+        match read_once(reader, &mut buf[have..]) {
+            Ok(0) => return Ok(have),
+            Ok(n) => have += n,
+            Err(e) => return Err(Broken {
+                count: have + e.count,
+                ..e
+            }),
         }
-        have += part.count;
     }
-    Filled {
-        count: have,
-        failed: None,
-    }
+    Ok(have)
 }
 
-// How long the reason is at the start of `text`, which ends at a 0. std puts the system's number
-// behind it, as in `Is a directory (os error 21)`.
-fn reason_length(text: &[u8]) -> usize
-    ensures { IsPrefixLen result text.now }
-{
-    for i in 0..text.len() {
-        if text[i] == 0 || text[i..].starts_with(b" (os error ") {
-            return i;
-        }
-    }
-    text.len()
+// A failure as it is told: what failed, as the caller names it, and why.
+#[derive(Clone, Copy)]
+pub struct Failure<'a> {
+    pub what: &'a [u8],
+    pub why: io::Error,
+}
+
+// Writes why something failed into `text`, without the system's number that std puts behind it, as in
+// `Is a directory (os error 21)`.
+fn reason_of(why: io::Error, text: &mut [u8; 128]) -> &[u8] {
+    let mut rest: &mut [u8] = text;
+    let _ = write!(rest, "{why}");
+    let left = rest.len();
+    let all = &text[..text.len().saturating_sub(left)];
+    let number = all.windows(11).position(|w| w.starts_with(b" (os error "));
+    &all[..number.unwrap_or(all.len())]
 }
 
 fn write_failure(to: Stderr, what: &[u8], reason: &[u8]) -> io::Result<()> {
@@ -95,14 +93,11 @@ fn write_failure(to: Stderr, what: &[u8], reason: &[u8]) -> io::Result<()> {
     to.write_all(b"\n")
 }
 
-// Tells on standard error what failed, as the caller names it, and why. There is no place to tell
-// that this fails.
+// Tells on standard error what failed, and why. There is no place to tell that this fails.
 pub fn fail(to: Stderr, what: &[u8], why: io::Error) {
     let mut text = [0u8; 128];
-    let mut rest: &mut [u8] = &mut text;
-    let _ = write!(rest, "{why}");
-    let n = reason_length(&text);
-    let _ = write_failure(to, what, &text[..n]);
+    let reason = reason_of(why, &mut text);
+    let _ = write_failure(to, what, reason);
 }
 
 // How many arguments there are, the program's name among them.
@@ -123,39 +118,32 @@ fn not_taken(e: FillError) -> io::Error {
     }
 }
 
-fn open_bytes<R: Files>(rt: &R, path: &[u8]) -> io::Result<R::File> {
-    match str::from_utf8(path) {
-        Ok(text) => fs::open(rt, text),
-        Err(_) => Err(io::Error::new(ErrorKind::InvalidFilename, "the name is not UTF-8")),
-    }
+// A file open for reading, and its name.
+#[derive(Drop)]
+pub struct Opened<'a, F> {
+    pub file: F,
+    pub name: &'a str,
 }
 
-// Opens the file that argument `i` names, and puts its name into `path`. Why it cannot is told on
-// standard error.
-pub fn open_argument<R: Env + Files>(
+fn open<'a, R: Files>(rt: &R, path: &'a [u8]) -> io::Result<Opened<'a, R::File>> {
+    let name = str::from_utf8(path).map_err(|_| io::Error::new(
+        ErrorKind::InvalidFilename,
+        "the name is not UTF-8",
+    ))?;
+    let file = fs::open(rt, name)?;
+    Ok(Opened { file, name })
+}
+
+// Opens the file that argument `i` names. Its name stands in `path`.
+pub fn open_argument<'a, R: Env + Files>(
     rt: &R,
-    to: Stderr,
     i: usize,
-    path: &mut [u8],
-) -> Opened<R::File>
-    ensures { IsPrefixLen result.length path.new }
-{
-    let n = match rt.arg(i, path) {
-        Ok(n) => n,
-        Err(e) => {
-            fail(to, b"argument", not_taken(e));
-            return Opened {
-                file: None,
-                length: 0,
-            };
-        }
-    };
-    let file = match open_bytes(rt, &path[..n]) {
-        Ok(file) => Some(file),
-        Err(why) => {
-            fail(to, &path[..n], why);
-            None
-        }
-    };
-    Opened { file, length: n }
+    path: &'a mut [u8],
+) -> Result<Opened<'a, R::File>, Failure<'a>> {
+    let n = rt.arg(i, path).map_err(|e| Failure {
+        what: b"argument",
+        why: not_taken(e),
+    })?;
+    let what = &path[..n];
+    open(rt, what).map_err(|why| Failure { what, why })
 }

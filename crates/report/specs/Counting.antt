@@ -2,22 +2,35 @@
 use Rattle.std.specs.Prelude.{ℕ, ◌+◌, ◌%◌, ◌^◌}
 use Rattle.report.specs.declared.Counts.{Counts}
 
--- one more, which wraps at 2^64
+-- n more, which wraps at 2^64
+abbrev pub more : ℕ → ℕ → ℕ
+more n count = (count + n) % 2 ^ 64
+
+-- one more, likewise
 abbrev pub one_more : ℕ → ℕ
-one_more n = (n + 1) % 2 ^ 64
+one_more count = more 1 count
 
--- so many lines taken, passed over and wrong
-abbrev pub counts_of : ℕ → ℕ → ℕ → Counts
-counts_of lines passed wrong = record { lines = lines; passed = passed; wrong = wrong }
+-- so many lines taken, characters compared, lines passed over and lines wrong
+abbrev pub counts_of : ℕ → ℕ → ℕ → ℕ → Counts
+counts_of lines characters passed wrong =
+    record { lines = lines; characters = characters; passed = passed; wrong = wrong }
 
--- one line more
-abbrev pub with_line : Counts → Counts
-with_line c = counts_of (one_more c.lines) c.passed c.wrong
+-- before the first line
+abbrev pub no_counts : Counts
+no_counts = counts_of 0 0 0 0
+
+-- n lines more
+abbrev pub with_lines : ℕ → Counts → Counts
+with_lines n c = counts_of (more n c.lines) c.characters c.passed c.wrong
+
+-- n characters more are compared, and are the same
+abbrev pub with_same : ℕ → Counts → Counts
+with_same n c = counts_of c.lines (more n c.characters) c.passed c.wrong
 
 -- one more of the lines is passed over
 abbrev pub with_passed : Counts → Counts
-with_passed c = counts_of c.lines (one_more c.passed) c.wrong
+with_passed c = counts_of c.lines c.characters (one_more c.passed) c.wrong
 
 -- one more of the lines is wrong
 abbrev pub with_wrong : Counts → Counts
-with_wrong c = counts_of c.lines c.passed (one_more c.wrong)
+with_wrong c = counts_of c.lines c.characters c.passed (one_more c.wrong)

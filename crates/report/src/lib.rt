@@ -3,11 +3,13 @@
 #![tactic(auto)]
 
 ghost use Rattle.std.specs.Prelude.{◌≡◌};
-ghost use Rattle.report.specs.Counting.{one_more, counts_of, with_line, with_passed, with_wrong};
+ghost use Rattle.report.specs.Counting.{one_more, no_counts, with_lines, with_same, with_passed, with_wrong};
 
-use listing::Tally;
+use std::env::Env;
+use std::fmt::Display;
 use std::io;
 use std::io::{Print, Stderr, Stdout};
+use std::rt::Files;
 
 // Where messages go, and what fails there is told.
 #[derive(Clone, Copy)]
@@ -16,10 +18,38 @@ pub struct Console {
     pub err: Stderr,
 }
 
-// The lines of a list that were taken, and those of them that were passed over and that are wrong.
+impl Console {
+    pub fn of(rt: &HostRuntime) -> Console {
+        Console {
+            out: rt.stdout(),
+            err: rt.stderr(),
+        }
+    }
+
+    // What a write to standard output came to.
+    fn tell(self, written: io::Result<()>) {
+        if let Err(why) = written {
+            input::fail(self.err, b"standard output", why);
+        }
+    }
+
+    // Says a text, as the macro `format_args!` makes it, in one write.
+    pub fn say<D: Display + Drop>(self, text: D) {
+        self.tell(self.out.print(text));
+    }
+
+    // Says bytes that need not be text.
+    pub fn say_bytes(self, bytes: &[u8]) {
+        self.tell(self.out.write_all(bytes));
+    }
+}
+
+// The lines of a list that were taken, the characters compared in those that are the same, and how
+// many lines were passed over and are wrong.
 #[derive(Clone, Copy)]
 pub struct Counts {
     pub lines: u64,
+    pub characters: u64,
     pub passed: u64,
     pub wrong: u64,
 }
@@ -33,138 +63,157 @@ pub fn one_more(n: u64) -> u64
 
 impl Counts {
     pub fn none() -> Counts
-        ensures { result ≡ counts_of 0 0 0 }
+        ensures { result ≡ no_counts }
     {
         Counts {
             lines: 0,
+            characters: 0,
             passed: 0,
             wrong: 0,
         }
     }
 
-    pub fn with_line(mut self) -> Counts
-        ensures { result ≡ with_line self }
+    // So many lines more.
+    pub fn add_lines(&mut self, n: u64)
+        ensures { self.new ≡ with_lines n self.old }
     {
-        self.lines = one_more(self.lines);
-        self
+        self.lines = self.lines.wrapping_add(n);
     }
 
-    pub fn with_passed(mut self) -> Counts
-        ensures { result ≡ with_passed self }
+    // A line is the same in `n` characters.
+    pub fn add_same(&mut self, n: u64)
+        ensures { self.new ≡ with_same n self.old }
+    {
+        self.characters = self.characters.wrapping_add(n);
+    }
+
+    pub fn add_passed(&mut self)
+        ensures { self.new ≡ with_passed self.old }
     {
         self.passed = one_more(self.passed);
-        self
     }
 
-    pub fn with_wrong(mut self) -> Counts
-        ensures { result ≡ with_wrong self }
+    pub fn add_wrong(&mut self)
+        ensures { self.new ≡ with_wrong self.old }
     {
         self.wrong = one_more(self.wrong);
-        self
     }
 }
 
-// What a write to standard output came to.
-fn told(to: Console, written: io::Result<()>) {
-    if let Err(why) = written {
-        input::fail(to.err, b"standard output", why);
+// What is said of a list: where, under which name, and the counts of its lines so far.
+#[derive(Clone, Copy)]
+pub struct Report<'a> {
+    pub to: Console,
+    pub name: &'a str,
+    pub counts: Counts,
+}
+
+impl<'a> Report<'a> {
+    // Before the first line.
+    pub fn new(to: Console, name: &'a str) -> Report<'a>
+        ensures { result ≡ record { to = to; name = name.entry; counts = no_counts } }
+    {
+        Report {
+            to,
+            name,
+            counts: Counts::none(),
+        }
+    }
+
+    // One line more is taken.
+    pub fn line(&mut self)
+        ensures { self.new ≡ record self.old { counts = with_lines 1 self.old.counts } }
+    {
+        self.counts.add_lines(1);
+    }
+
+    // Says something about line `n`.
+    pub fn say_line<D: Display + Drop>(&self, n: u64, what: D) {
+        let name = self.name;
+        self.to.say(format_args!("{name} line {n}: {what}\n"));
+    }
+
+    // Says what is wrong with the last line that was taken.
+    pub fn wrong<D: Display + Drop>(&mut self, what: D)
+        ensures { self.new ≡ record self.old { counts = with_wrong self.old.counts } }
+    {
+        self.say_line(self.counts.lines, what);
+        self.counts.add_wrong();
+    }
+
+    // Says where the last line that was taken differs.
+    pub fn differs(&mut self, at: usize)
+        ensures { self.new ≡ record self.old { counts = with_wrong self.old.counts } }
+    {
+        self.wrong(format_args!("differs at column {at}"));
+    }
+
+    // Ends a list whose lines are compared. What was counted besides stands in front.
+    pub fn say_compared<D: Display + Drop>(&self, besides: D) {
+        let name = self.name;
+        let Counts {
+            lines,
+            characters,
+            wrong,
+            ..
+        } = self.counts;
+        self.to.say(format_args!(
+            "{name}: {besides}{lines} lines, {characters} characters compared, {wrong} wrong\n"
+        ));
+    }
+
+    // Ends a list that is replayed, likewise.
+    pub fn say_replayed<D: Display + Drop>(&self, besides: D) {
+        let name = self.name;
+        let Counts {
+            lines,
+            passed,
+            wrong,
+            ..
+        } = self.counts;
+        self.to.say(format_args!(
+            "{name}: {besides}{lines} lines, {passed} passed over, {wrong} wrong\n"
+        ));
     }
 }
 
-pub fn say(to: Console, text: &[u8]) {
-    let written = to.out.write_all(text);
-    told(to, written);
-}
-
-pub fn say_number(to: Console, n: u64) {
-    let written = to.out.print(n);
-    told(to, written);
-}
-
-// In hexadecimal digits, with zeros in front up to `width` of them.
-pub fn say_digits(to: Console, n: u64, width: usize) {
-    let width = width.min(16);
-    let written = print!(to.out; "{n:0width$x}");
-    told(to, written);
-}
-
-pub fn say_hex(to: Console, n: u64) {
-    say(to, b"0x");
-    say_digits(to, n, 1);
-}
-
-pub fn say_value(to: Console, what: &[u8], n: u64) {
-    say(to, what);
-    say_hex(to, n);
-}
-
-// Ends a message that has said what differs.
-pub fn say_both(to: Console, want: u64, found: u64) {
-    say_value(to, b": expected ", want);
-    say_value(to, b", found ", found);
-    say(to, b"\n");
-}
-
-// It takes an array, so that no caller has to prove its length.
-pub fn say_line(to: Console, head: &[u8], line: &[u8; 48]) {
-    say(to, head);
-    say(to, line);
-}
-
-// Begins a message about a line of a list.
-pub fn say_place(to: Console, name: &[u8], number: u64) {
-    say(to, name);
-    say(to, b" line ");
-    say_number(to, number);
-    say(to, b": ");
-}
-
-pub fn say_differs(to: Console, name: &[u8], number: u64, at: usize) {
-    say_place(to, name, number);
-    say(to, b"differs at column ");
-    say_number(to, at as u64);
-    say(to, b"\n");
-}
-
-// Says what is wrong with the next line of a list, and answers the tally after it, whose lines are
-// its number.
-pub fn wrong_line(to: Console, name: &[u8], tally: Tally, what: &[u8]) -> Tally
-    ensures { (result.lines ≡ one_more tally.lines) × (result.characters ≡ tally.characters) × (result.wrong ≡ one_more tally.wrong) }
+// Runs `check` on the file that argument `i` names. What fails is told on standard error.
+fn check_argument<R: Env + Files, F: Fn(&mut Report<'_>, R::File) -> io::Result<()>>(
+    rt: &R,
+    to: Console,
+    i: usize,
+    check: &F,
+)
+    requires { F.IsAlwaysCallable check.now }
 {
-    let wrong = tally.with_wrong();
-    say_place(to, name, wrong.lines);
-    say(to, what);
-    say(to, b"\n");
-    wrong
+    let mut path = [0u8; 4096];
+    match input::open_argument(rt, i, &mut path) {
+        Ok(list) => {
+            let mut report = Report::new(to, list.name);
+            if let Err(why) = check(&mut report, list.file) {
+                input::fail(to.err, list.name.as_bytes(), why);
+            }
+        }
+        Err(failure) => input::fail(to.err, failure.what, failure.why),
+    }
 }
 
-// Says what is wrong with the last line that was taken.
-pub fn wrong(to: Console, name: &[u8], counts: Counts, what: &[u8]) -> Counts
-    ensures { result ≡ with_wrong counts }
+// Runs `check` on each file that an argument names; says how to call the program where there is none.
+pub fn each_list<R: Env + Files, F: Fn(&mut Report<'_>, R::File) -> io::Result<()>>(
+    rt: &R,
+    to: Console,
+    program: &str,
+    check: F,
+)
+    requires { F.IsAlwaysCallable check }
 {
-    say_place(to, name, counts.lines);
-    say(to, what);
-    say(to, b"\n");
-    counts.with_wrong()
-}
-
-pub fn say_count(to: Console, n: u64, what: &[u8]) {
-    say_number(to, n);
-    say(to, what);
-}
-
-// Ends a line of totals.
-pub fn say_counts(to: Console, counts: Counts) {
-    say_count(to, counts.lines, b" lines, ");
-    say_count(to, counts.passed, b" passed over, ");
-    say_count(to, counts.wrong, b" wrong\n");
-}
-
-pub fn say_tally(to: Console, tally: Tally) {
-    say_number(to, tally.lines);
-    say(to, b" lines, ");
-    say_number(to, tally.characters);
-    say(to, b" characters compared, ");
-    say_number(to, tally.wrong);
-    say(to, b" wrong\n");
+    let count = input::argument_count(rt);
+    if count < 2 {
+        // There is no place to tell that this fails.
+        let _ = println!(to.err; "usage: {program} LIST..");
+        return;
+    }
+    for i in 1..count {
+        check_argument(rt, to, i, &check);
+    }
 }

@@ -1,28 +1,21 @@
-// Takes a text file line by line. It is read in parts; a read that fails is not taken for its end.
+// Takes a text file line by line, and replays a list so. The file is read in parts; a read that fails
+// is not taken for its end.
 #![tactic(auto)]
 
-ghost use Rattle.std.specs.Prelude.{◌≡◌, ◌≤◌, ◌<◌, length};
+ghost use Rattle.std.specs.Prelude.{◌≡◌, ◌+◌, ◌<◌, ◌≤◌, IfOk, IfSome, length};
+ghost use Rattle.text_lines.specs.declared.Unreadable.TheVariants.{Failed};
 
-use input::Filled;
-use std::io;
+use input::Broken;
+use report::Report;
 use std::io::Read;
+use std::{fmt, io};
 
-// The part of a file that was read last. It is passed as an array, so that no caller has to prove its
-// length.
-pub type Text = [u8; 65536];
+// The most bytes of a line, with its line feed.
+const TEXT: usize = 65536;
 
-// The bytes of a text that are not taken yet, from `at` up to `end`.
+// Why no further line can be taken.
 #[derive(Clone, Copy)]
-pub struct Unread {
-    pub at: usize,
-    pub end: usize,
-}
-
-// What comes next in a file.
-#[derive(Clone, Copy)]
-pub enum Next {
-    Line,
-    End,
+pub enum Unreadable {
     // The file ends inside a line.
     Cut,
     // A line longer than the text.
@@ -31,141 +24,136 @@ pub enum Next {
     Failed(io::Error),
 }
 
-// What came next; where it is a line, the places of its first byte and of its line feed, else twice
-// the same; and what is left of the text.
-#[derive(Clone, Copy)]
-pub struct Taken {
-    pub next: Next,
-    pub start: usize,
-    pub stop: usize,
-    pub unread: Unread,
+impl fmt::Display for Unreadable {
+    fn fmt<W: fmt::Write>(&self, f: &mut fmt::Formatter<W>) -> fmt::Result {
+        match self {
+            Unreadable::Cut => write!(f, "cut short"),
+            Unreadable::Long => write!(f, "too long to be read"),
+            Unreadable::Failed(why) => write!(f, "{why}"),
+        }
+    }
 }
 
-impl Unread {
-    // Before the first read.
-    pub fn none() -> Unread
-        ensures { (result.at ≡ 0) × (result.end ≡ 0) }
-    {
-        Unread { at: 0, end: 0 }
+impl From<Broken> for Unreadable {
+    ghost from_gives = { λ b e. e ≡ Failed b.why };
+
+    fn from(b: Broken) -> Unreadable {
+        Unreadable::Failed(b.why)
     }
+}
+
+// The lines of a file that are not taken yet. Of the part that was read last, these are the bytes from
+// `at` up to `end`.
+#[derive(Drop)]
+pub struct Lines<R> {
+    reader: R,
+    text: [u8; TEXT],
+    at: usize,
+    end: usize,
+    ghost bounds: { (at ≤ end) × (end ≤ 65536) },
 }
 
 // How many bytes stand before the first line feed; all of them, where there is none.
 pub fn line_length(bytes: &[u8]) -> usize
     ensures { result ≤ length bytes.now }
 {
-    for i in 0..bytes.len() {
-        if bytes[i] == b'\n' {
-            return i;
+    let feed = bytes.iter().position(|b| *b == b'\n');
+    feed.unwrap_or(bytes.len())
+}
+
+impl<R: Read> Lines<R> {
+    // Before the first read.
+    pub fn new(reader: R) -> Lines<R> {
+        Lines {
+            reader,
+            text: [0; TEXT],
+            at: 0,
+            end: 0,
         }
     }
-    bytes.len()
-}
 
-// The place of the first line feed from `at` on; `end` where there is none before.
-fn line_end(text: &[u8], at: usize, end: usize) -> usize
-    requires { (at ≤ end) × (end ≤ length text.now) }
-    ensures { (at ≤ result) × (result ≤ end) }
-{
-    at + line_length(&text[at..end])
-}
+    // How many bytes the next line has, where its line feed is read already.
+    fn length_read(&self) -> Option<usize>
+        ensures { IfSome result (λ n. self.now.at + n < self.now.end) }
+    {
+        let unread = &self.text[self.at..self.end];
+        unread.iter().position(|b| *b == b'\n')
+    }
 
-// Moves the bytes from `at` up to `end` to the front.
-fn to_front(text: &mut [u8], at: usize, end: usize)
-    requires { (at ≤ end) × (end ≤ length text.old) }
-    ensures { length text.new ≡ length text.old }
-{
-    for i in at..end {
-        text[i - at] = text[i];
+    // Moves what is unread to the front, and reads on behind it.
+    fn read_on(&mut self) -> Result<(), Broken> {
+        let kept = self.end - self.at;
+        self.text.copy_within(self.at..self.end, 0);
+        self.at = 0;
+        self.end = kept;
+        let n = input::fill(&mut self.reader, &mut self.text[kept..])?;
+        self.end = kept + n;
+        Ok(())
     }
-}
 
-// Moves what is left to the front and reads on behind it. Answers how many bytes there are then.
-fn refill<R: Read>(reader: &mut R, text: &mut [u8], at: usize, end: usize) -> Filled
-    requires { (at ≤ end) × (end ≤ length text.old) }
-    ensures { result.count ≤ length text.old }
-{
-    to_front(text, at, end);
-    let kept = end - at;
-    let got = input::fill(reader, &mut text[kept..]);
-    Filled {
-        count: kept + got.count,
-        failed: got.failed,
-    }
-}
-
-// The line from `start` up to the line feed at `stop`, and what is left behind it.
-fn line_taken(start: usize, stop: usize, end: usize) -> Taken
-    requires { (start ≤ stop) × (stop < end) × (end ≤ 65536) }
-    ensures line { (result.start ≤ result.stop) × (result.stop < 65536) }
-    ensures unread { (result.unread.at ≤ result.unread.end) × (result.unread.end ≤ 65536) }
-{
-    Taken {
-        next: Next::Line,
-        start,
-        stop,
-        unread: Unread { at: stop + 1, end },
-    }
-}
-
-fn no_line(next: Next) -> Taken
-    ensures line { (result.start ≤ result.stop) × (result.stop < 65536) }
-    ensures unread { (result.unread.at ≤ result.unread.end) × (result.unread.end ≤ 65536) }
-{
-    Taken {
-        next,
-        start: 0,
-        stop: 0,
-        unread: Unread::none(),
-    }
-}
-
-// Takes the next line of a text that holds so many bytes and is not read on.
-fn take_first(text: &Text, have: usize) -> Taken
-    requires { have ≤ 65536 }
-    ensures line { (result.start ≤ result.stop) × (result.stop < 65536) }
-    ensures unread { (result.unread.at ≤ result.unread.end) × (result.unread.end ≤ 65536) }
-{
-    let stop = line_end(text, 0, have);
-    if stop < have {
-        return line_taken(0, stop, have);
-    }
-    if have == 0 {
-        return no_line(Next::End);
-    }
-    if have == 65536 {
-        return no_line(Next::Long);
-    }
-    no_line(Next::Cut)
-}
-
-// What is unread of a text; nothing, where the bounds lie outside of it.
-fn within(unread: Unread) -> Unread
-    ensures { (result.at ≤ result.end) × (result.end ≤ 65536) }
-{
-    if unread.end <= 65536 {
-        if unread.at <= unread.end {
-            return unread;
+    // How many bytes the next line has; none, where the file ends.
+    fn next_length(&mut self) -> Result<Option<usize>, Unreadable>
+        ensures { IfOk result (λ o. IfSome o (λ n. self.new.at + n < self.new.end)) }
+    {
+        if let Some(n) = self.length_read() {
+            return Ok(Some(n));
+        }
+        self.read_on()?;
+        if let Some(n) = self.length_read() {
+            return Ok(Some(n));
+        }
+        match self.end - self.at {
+            0 => Ok(None),
+            TEXT => Err(Unreadable::Long),
+            _ => Err(Unreadable::Cut),
         }
     }
-    Unread::none()
+
+    // Takes the next line, without its line feed; none, where the file ends.
+    pub fn next_line(&mut self) -> Result<Option<&[u8]>, Unreadable>
+        ensures { IfOk result (λ o. IfSome o (λ line. length line.now < 65536)) }
+    {
+        let Some(n) = self.next_length()? else {
+            return Ok(None);
+        };
+        let start = self.at;
+        self.at += n + 1;
+        let taken = &*self;
+        Ok(Some(&taken.text[start..start + n]))
+    }
 }
 
-// Takes the next line of a file. It lies in `text` until the next call.
-pub fn take_text<R: Read>(reader: &mut R, text: &mut Text, unread: Unread) -> Taken
-    ensures line { (result.start ≤ result.stop) × (result.stop < 65536) }
-    ensures unread { (result.unread.at ≤ result.unread.end) × (result.unread.end ≤ 65536) }
-{
-    let inside = within(unread);
-    let at = inside.at;
-    let end = inside.end;
-    let stop = line_end(text, at, end);
-    if stop < end {
-        return line_taken(at, stop, end);
+// A list that is replayed line by line. What is wrong with it is said of its last counted line.
+pub trait Replay {
+    // Takes the next line, without its line feed, and counts it.
+    fn take(&mut self, line: &[u8], list: &mut Report<'_>);
+
+    // The file ends behind the last line.
+    fn end(&mut self, list: &mut Report<'_>);
+}
+
+// Replays a file, and fails where a read fails. One that ends inside a line, or has a line that is too
+// long, has one wrong line more. The turns are more than any run uses up.
+pub fn each_line<R: Read + Drop, P: Replay>(
+    file: R,
+    list: &mut Report<'_>,
+    run: &mut P,
+) -> io::Result<()> {
+    let mut lines = Lines::new(file);
+    for _ in 0..u64::MAX {
+        match lines.next_line() {
+            Ok(Some(line)) => run.take(line, list),
+            Ok(None) => {
+                run.end(list);
+                break;
+            }
+            Err(Unreadable::Failed(why)) => return Err(why),
+            Err(cut) => {
+                list.line();
+                list.wrong(cut);
+                break;
+            }
+        }
     }
-    let got = refill(reader, text, at, end);
-    if let Some(why) = got.failed {
-        return no_line(Next::Failed(why));
-    }
-    take_first(text, got.count)
+    Ok(())
 }

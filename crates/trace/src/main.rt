@@ -1,25 +1,20 @@
 // The program trace: it reads its input, answers it and writes the answer's text.
 #![tactic(auto)]
 
-use std::io::{Print, Stderr, Stdout};
+use std::io;
+use std::io::Print;
 
-// Writes the answer to an input, in one write.
-fn tell(out: Stdout, err: Stderr, bytes: &[u8]) {
-    let mut text = [0u8; lines::TEXT];
-    let n = trace_answer::answer(bytes, &mut text);
-    if let Err(why) = out.write_all(&text[..n]) {
-        input::fail(err, b"standard output", why);
-    }
-}
-
-// Reads one byte more than an input may have: one that is too long is refused without reading it all.
+// Reads the input, and answers in one write. It reads one byte more than an input may have: one that
+// is too long is refused without reading it all.
 fn main(rt: HostRuntime) {
     let mut bytes = [0u8; trace_answer::MAX_BYTES + 1];
-    let got = input::fill(&mut rt.stdin(), &mut bytes);
-    if let Some(why) = got.failed {
-        input::fail(rt.stderr(), b"standard input", why);
-        return;
+    let mut text = [0u8; lines::TEXT];
+    let n = match input::fill(&mut rt.stdin(), &mut bytes) {
+        Ok(n) => n,
+        Err(broken) => return input::fail(rt.stderr(), b"standard input", broken.why),
+    };
+    let made = trace_answer::answer(&bytes[..n], &mut text);
+    if let Err(why) = rt.stdout().write_all(&text[..made]) {
+        input::fail(rt.stderr(), b"standard output", why);
     }
-    let n = got.count;
-    tell(rt.stdout(), rt.stderr(), &bytes[..n]);
 }

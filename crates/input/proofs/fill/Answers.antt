@@ -16,8 +16,14 @@ part_taken a k n xs ys h m =
 pub loop-have-preserved : goal.loop-have-preserved
 loop-have-preserved g c =
     let l = c.loop-have in
-    let part = c.read_once-part in (
+    let part = c.read_once in (
       search rules,
-      subst (Consumes _ _) (part_taken l.have _ part.result.count l.buf part.new.buf l.invariant.0 part.ensures.prefix_len.0)
-          (Consumes-trans _ _ _ _ _ l.invariant.1 part.ensures.bytes),
+      subst (Consumes _ _) (part_taken l.have _ c.in-Ok.n l.buf part.new.buf l.invariant.0 c.in-Ok.ensures.prefix_len.0)
+          (Consumes-trans _ _ _ _ _ l.invariant.1 c.in-Ok.ensures.bytes),
     )
+
+pub returns-in-Err-clause-bytes : goal.returns-in-Err-clause-bytes
+returns-in-Err-clause-bytes g c =
+    let l = c.loop-have in
+    subst (Consumes _ _) (part_taken l.have _ c.in-Err.e.count l.buf c.read_once.new.buf l.invariant.0 c.in-Err.ensures.prefix_len.0)
+    (Consumes-trans _ _ _ _ _ l.invariant.1 c.in-Err.ensures.bytes)
