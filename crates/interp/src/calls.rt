@@ -28,16 +28,15 @@ pub fn run_call(rows: &[u64], cursor: Cursor, request: Request, records: &mut [u
     match judge_call(rows, cursor, request, records.len()) {
         Err(why) => Answer {
             outcome: Err(why),
-            cursor: cursor,
+            cursor,
         },
         Ok(()) => {
             let limit = live_limit(request) as usize;
             let due = Due::Exactly(request.length() as usize);
             let ran = run_padded(rows, cursor, limit, due, records);
-            let after = ran.cursor;
             Answer {
                 outcome: Ok(()),
-                cursor: after,
+                cursor: ran.cursor,
             }
         }
     }

@@ -69,7 +69,7 @@ impl Cursor {
         ram[..kept].copy_from_slice(&input[..kept]);
         Cursor {
             regs: [0; Cursor::REGS],
-            ram: ram,
+            ram,
             micro_pc: MicroPc(0),
             cycles: 0,
             halted: false,

@@ -39,7 +39,7 @@ fn is_short(room: usize, n: u64) -> bool
 fn judge_rows(rows: &[u64]) -> Result<(), Refusal>
     ensures { outcome_number result ≡ lowest (row_lines rows.now) }
 {
-    if rows.len() == 0 {
+    if rows.is_empty() {
         return Err(Refusal::NoRows);
     }
     if MAX_ROWS < rows.len() {
