@@ -3,7 +3,7 @@
 #![tactic(auto)]
 
 ghost use Rattle.std.specs.Prelude.{◌≡◌, ◌+◌, ◌%◌, ◌^◌, ◌≤◌, ◌<◌, ◌++◌, length, take, drop};
-ghost use Rattle.expand.specs.Rows.{is_reg_shift, alu_row, stage_rd, stage_row, op_row, load_row, store_row, branch_row, upper_row, jump_row, system_row, row_of_inst, row_of};
+ghost use Rattle.expand.specs.Rows.{is_reg_shift, row, alu_row, stage_rd, stage_row, op_row, load_row, store_row, branch_row, upper_row, jump_row, system_row, row_of_inst, row_of};
 ghost use Rattle.expand.specs.Expand.{rows_of, expansion_of, starts_of, start_at, expand_refusal_number, expand_told_of, expand_answer_of, rows_after, starts_after, is_expansion};
 ghost use Rattle.expand.specs.Code.{stages_after};
 ghost use Rattle.expand.specs.Claims.{Decides, ExpansionLaws};
@@ -20,15 +20,15 @@ pub const SHIFT_STAGES: usize = 6;
 pub const MAX_PROGRAM_WORDS: usize = 1048576;
 
 // A row position: the source's micro-PC.
-#[derive(Clone, Copy)]
+#[derive(Clone, Copy, Debug, PartialEq, Eq)]
 pub struct MicroPc(pub usize);
 
 // A program position: the source's index of an instruction.
-#[derive(Clone, Copy)]
+#[derive(Clone, Copy, Debug, PartialEq, Eq)]
 pub struct InstPos(pub usize);
 
 // The kind of a row.
-#[derive(Clone, Copy)]
+#[derive(Clone, Copy, Debug, PartialEq, Eq)]
 pub enum VirtualKind {
     // A full ALU operation, register or immediate form.
     Alu,
@@ -46,7 +46,7 @@ pub enum VirtualKind {
 }
 
 // A row of the ROM, taken apart.
-#[derive(Clone, Copy)]
+#[derive(Clone, Copy, Debug, PartialEq, Eq)]
 pub struct RomRow {
     pub kind: VirtualKind,
     pub rd: usize,
@@ -60,7 +60,7 @@ pub struct RomRow {
 }
 
 // Why a program is not expanded.
-#[derive(Clone, Copy)]
+#[derive(Clone, Copy, Debug, PartialEq, Eq)]
 pub enum Refusal {
     // 1: the program has no words, so it has no rows.
     NoRows,
@@ -70,31 +70,17 @@ pub enum Refusal {
     Short,
 }
 
-impl Refusal {
-    // Its number in document 01's table.
-    pub fn number(self) -> u64
-        ensures { result ≡ expand_refusal_number self }
-    {
-        match self {
+// Its number in document 01's table.
+impl From<Refusal> for u64 {
+    ghost from_gives = { λ why number. number ≡ expand_refusal_number why };
+
+    fn from(why: Refusal) -> u64 {
+        match why {
             Refusal::NoRows => 1,
             Refusal::TooManyRows => 2,
             Refusal::Short => 6,
         }
     }
-}
-
-// The answer of `expand_program`: the count of rows, or a refusal.
-#[derive(Clone, Copy)]
-pub enum Expanded {
-    Rows(usize),
-    Refused(Refusal),
-}
-
-// Where an instruction's rows start, or that the program has no such instruction.
-#[derive(Clone, Copy)]
-pub enum Start {
-    At(MicroPc),
-    Past,
 }
 
 // The register that a stage writes: the last of them writes rd, the others none.
@@ -104,12 +90,12 @@ fn stage_rd(rd: usize, stage: usize) -> usize
     if stage == SHIFT_STAGES - 1 { rd } else { 0 }
 }
 
-// The rows of the kinds, each with the fields of the instruction that expand.rs takes.
-fn alu_row(i: Inst) -> RomRow
-    ensures { result ≡ alu_row i }
+// A row with every field of the instruction. The rows of the kinds below name the fields that expand.rs does not take.
+fn row(i: Inst, kind: VirtualKind) -> RomRow
+    ensures { result ≡ row i kind i.rd i.rs1 i.rs2 i.funct3 i.imm }
 {
     RomRow {
-        kind: VirtualKind::Alu,
+        kind,
         rd: i.rd,
         rs1: i.rs1,
         rs2: i.rs2,
@@ -119,25 +105,25 @@ fn alu_row(i: Inst) -> RomRow
     }
 }
 
+fn alu_row(i: Inst) -> RomRow
+    ensures { result ≡ alu_row i }
+{
+    row(i, VirtualKind::Alu)
+}
+
 fn stage_row(i: Inst, stage: usize) -> RomRow
     ensures { result ≡ stage_row i stage }
 {
     RomRow {
-        kind: VirtualKind::ShiftStage { stage: stage },
         rd: stage_rd(i.rd, stage),
-        rs1: i.rs1,
-        rs2: i.rs2,
-        funct3: i.funct3,
-        imm: i.imm,
-        raw: i.raw,
+        ..row(i, VirtualKind::ShiftStage { stage })
     }
 }
 
 fn op_row(i: Inst, stage: usize) -> RomRow
     ensures { result ≡ op_row i stage }
 {
-    let f = i.funct3;
-    match f {
+    match i.funct3 {
         1 | 5 => stage_row(i, stage),
         _ => alu_row(i),
     }
@@ -147,13 +133,8 @@ fn load_row(i: Inst) -> RomRow
     ensures { result ≡ load_row i }
 {
     RomRow {
-        kind: VirtualKind::Load,
-        rd: i.rd,
-        rs1: i.rs1,
         rs2: 0,
-        funct3: i.funct3,
-        imm: i.imm,
-        raw: i.raw,
+        ..row(i, VirtualKind::Load)
     }
 }
 
@@ -161,13 +142,8 @@ fn store_row(i: Inst) -> RomRow
     ensures { result ≡ store_row i }
 {
     RomRow {
-        kind: VirtualKind::Store,
         rd: 0,
-        rs1: i.rs1,
-        rs2: i.rs2,
-        funct3: i.funct3,
-        imm: i.imm,
-        raw: i.raw,
+        ..row(i, VirtualKind::Store)
     }
 }
 
@@ -175,13 +151,8 @@ fn branch_row(i: Inst) -> RomRow
     ensures { result ≡ branch_row i }
 {
     RomRow {
-        kind: VirtualKind::Branch,
         rd: 0,
-        rs1: i.rs1,
-        rs2: i.rs2,
-        funct3: i.funct3,
-        imm: i.imm,
-        raw: i.raw,
+        ..row(i, VirtualKind::Branch)
     }
 }
 
@@ -189,13 +160,10 @@ fn upper_row(i: Inst) -> RomRow
     ensures { result ≡ upper_row i }
 {
     RomRow {
-        kind: VirtualKind::Upper,
-        rd: i.rd,
         rs1: 0,
         rs2: 0,
         funct3: 0,
-        imm: i.imm,
-        raw: i.raw,
+        ..row(i, VirtualKind::Upper)
     }
 }
 
@@ -203,13 +171,9 @@ fn jump_row(i: Inst) -> RomRow
     ensures { result ≡ jump_row i }
 {
     RomRow {
-        kind: VirtualKind::Jump,
-        rd: i.rd,
-        rs1: i.rs1,
         rs2: 0,
         funct3: 0,
-        imm: i.imm,
-        raw: i.raw,
+        ..row(i, VirtualKind::Jump)
     }
 }
 
@@ -218,40 +182,33 @@ fn system_row(i: Inst) -> RomRow
     ensures { result ≡ system_row i }
 {
     RomRow {
-        kind: VirtualKind::System,
         rd: 0,
         rs1: 10,
         rs2: 0,
         funct3: 0,
         imm: 0,
-        raw: i.raw,
+        ..row(i, VirtualKind::System)
     }
 }
 
+#[tactic(auto, unfolding(crate::specs::Rows::row_as))]
 fn row_of_inst(i: Inst, stage: usize) -> RomRow
     ensures { result ≡ row_of_inst i stage }
 {
-    let op = i.opcode;
-    match op {
+    match i.opcode {
         Opcode::Op => op_row(i, stage),
-        Opcode::OpImm => alu_row(i),
-        Opcode::Op32 => alu_row(i),
-        Opcode::OpImm32 => alu_row(i),
+        Opcode::OpImm | Opcode::Op32 | Opcode::OpImm32 => alu_row(i),
         Opcode::Load => load_row(i),
         Opcode::Store => store_row(i),
         Opcode::Branch => branch_row(i),
-        Opcode::Lui => upper_row(i),
-        Opcode::Auipc => upper_row(i),
-        Opcode::Jal => jump_row(i),
-        Opcode::Jalr => jump_row(i),
-        Opcode::Fence => system_row(i),
-        Opcode::Ecall => system_row(i),
-        Opcode::Ebreak => system_row(i),
-        Opcode::Invalid => system_row(i),
+        Opcode::Lui | Opcode::Auipc => upper_row(i),
+        Opcode::Jal | Opcode::Jalr => jump_row(i),
+        Opcode::Fence | Opcode::Ecall | Opcode::Ebreak | Opcode::Invalid => system_row(i),
     }
 }
 
 // The row of a row word. Any word has one: the upper half of a word that is no register shift is not looked at.
+#[tactic(auto, unfolding(crate::specs::Rows::row_of))]
 pub fn rom_row(word: u64) -> RomRow
     ensures { result ≡ row_of word }
 {
@@ -260,16 +217,12 @@ pub fn rom_row(word: u64) -> RomRow
     row_of_inst(decode::decode(raw), stage)
 }
 
-// The row position of an instruction's first row, by the starts of an expansion.
-pub fn inst_to_micro(starts: &[u64], at: InstPos) -> Start
+// The row position of an instruction's first row, by the starts of an expansion; none where the program has no such instruction.
+pub fn inst_to_micro(starts: &[u64], at: InstPos) -> Option<MicroPc>
     ensures { result ≡ start_at starts.now at }
 {
-    let i = at.0;
-    if i < starts.len() {
-        Start::At(MicroPc(starts[i] as usize))
-    } else {
-        Start::Past
-    }
+    let start = starts.get(at.0)?;
+    Some(MicroPc(*start as usize))
 }
 
 // Whether the lower half of a row word is a register shift: opcode 0x33 with funct3 1 or 5. One mask and no call of the
@@ -280,16 +233,16 @@ fn is_reg_shift(v: u64) -> bool
     v & 0x307f == 0x1033
 }
 
-// Whether stages 1 to 5 of the word v follow its row at i.
-fn stages_after(rows: &[u64], i: usize, v: u64) -> bool
-    requires { (i < length rows.now) × (v < 2 ^ 32) }
-    ensures { result ≡ stages_after rows.now i v }
+// Whether stages 1 to 5 of the word v follow the first row.
+fn stages_after(rows: &[u64], v: u64) -> bool
+    requires { v < 2 ^ 32 }
+    ensures { result ≡ stages_after rows.now v }
 {
-    if rows.len() - i < SHIFT_STAGES {
+    if rows.len() < SHIFT_STAGES {
         return false;
     }
     for k in 1..SHIFT_STAGES {
-        if rows[i + k] != v + 0x1_0000_0000 * (k as u64) {
+        if rows[k] != v + 0x1_0000_0000 * (k as u64) {
             return false;
         }
     }
@@ -300,19 +253,20 @@ fn stages_after(rows: &[u64], i: usize, v: u64) -> bool
 pub fn is_expansion(rows: &[u64]) -> bool
     ensures { result ≡ is_expansion rows.now }
 {
-    let mut i: usize = 0;
-    while i < rows.len() {
-        let v = rows[i];
+    let mut rest = rows;
+    while let Some((first, after)) = rest.split_first() {
+        let v = *first;
         if 0x1_0000_0000 <= v {
             return false;
         }
         if is_reg_shift(v) {
-            if !stages_after(rows, i, v) {
+            if !stages_after(rest, v) {
                 return false;
             }
-            i += SHIFT_STAGES;
+            let (_stages, next) = rest.split_at(SHIFT_STAGES);
+            rest = next;
         } else {
-            i += 1;
+            rest = after;
         }
     }
     true
@@ -329,6 +283,7 @@ pub fn expansion_laws()
 {}
 
 // How many rows a word has.
+#[tactic(auto, using(crate::proofs::Steps::rows_long))]
 fn row_count(raw: u32) -> usize
     ensures { result ≡ length (rows_of raw) }
 {
@@ -343,13 +298,7 @@ fn row_count(raw: u32) -> usize
 fn count_rows(program: &[u32]) -> usize
     ensures { result ≡ length (expansion_of program.now) }
 {
-    let mut n: usize = 0;
-    let mut i: usize = 0;
-    while i < program.len() {
-        n += row_count(program[i]);
-        i += 1;
-    }
-    n
+    program.iter().map(|raw| row_count(*raw)).sum()
 }
 
 // Writes the rows of a word from `at` on, and answers the position after them.
@@ -358,16 +307,12 @@ fn put(rows: &mut [u64], at: MicroPc, raw: u32) -> MicroPc
     ensures next { result.0 ≡ at.0 + length (rows_of raw) }
     ensures rows { rows.new ≡ take at.0 rows.old ++ rows_of raw ++ drop (at.0 + length (rows_of raw)) rows.old }
 {
-    let w = raw as u64;
     let i = at.0;
-    if is_reg_shift(w) {
-        for k in 0..SHIFT_STAGES {
-            rows[i + k] = w + 0x1_0000_0000 * (k as u64);
-        }
-        return MicroPc(i + SHIFT_STAGES);
+    let count = row_count(raw);
+    for k in 0..count {
+        rows[i + k] = raw as u64 + 0x1_0000_0000 * (k as u64);
     }
-    rows[i] = w;
-    MicroPc(i + 1)
+    MicroPc(i + count)
 }
 
 // Writes the rows and the starts of a program to the first places of the two buffers.
@@ -377,35 +322,42 @@ fn fill(program: &[u32], rows: &mut [u64], starts: &mut [u64])
     ensures starts { starts.new ≡ starts_of program.now ++ drop (length program.now) starts.old }
 {
     let mut at = MicroPc(0);
-    let mut inst = InstPos(0);
-    while inst.0 < program.len() {
-        let i = inst.0;
+    for (i, raw) in program.iter().enumerate() {
         starts[i] = at.0 as u64;
-        at = put(rows, at, program[i]);
-        inst = InstPos(i + 1);
+        at = put(rows, at, *raw);
     }
+}
+
+// The count of a program's rows, or why it is not expanded, by the places that it is lent.
+#[tactic(auto, unfolding(crate::specs::Expand::expand_refusal_of))]
+fn counted(program: &[u32], rows: &[u64], starts: &[u64]) -> Result<usize, Refusal>
+    ensures { expand_told_of result ≡ expand_answer_of program.now rows.now starts.now }
+{
+    if program.is_empty() {
+        return Err(Refusal::NoRows);
+    }
+    if MAX_PROGRAM_WORDS < program.len() {
+        return Err(Refusal::TooManyRows);
+    }
+    let count = count_rows(program);
+    if rows.len() < count || starts.len() < program.len() {
+        return Err(Refusal::Short);
+    }
+    Ok(count)
 }
 
 // Expands a program: its row words go to the first places of `rows`, the row position of each word's first row to those
 // of `starts`. Rows are counted before the first write, so that a refusal writes nothing.
-pub fn expand_program(program: &[u32], rows: &mut [u64], starts: &mut [u64]) -> Expanded
+pub fn expand_program(
+    program: &[u32],
+    rows: &mut [u64],
+    starts: &mut [u64],
+) -> Result<usize, Refusal>
     ensures answer { expand_told_of result ≡ expand_answer_of program.now rows.old starts.old }
     ensures rows { rows.new ≡ rows_after program.now rows.old starts.old }
     ensures starts { starts.new ≡ starts_after program.now rows.old starts.old }
 {
-    if program.len() == 0 {
-        return Expanded::Refused(Refusal::NoRows);
-    }
-    if MAX_PROGRAM_WORDS < program.len() {
-        return Expanded::Refused(Refusal::TooManyRows);
-    }
-    let n = count_rows(program);
-    if rows.len() < n {
-        return Expanded::Refused(Refusal::Short);
-    }
-    if starts.len() < program.len() {
-        return Expanded::Refused(Refusal::Short);
-    }
+    let n = counted(program, rows, starts)?;
     fill(program, rows, starts);
-    Expanded::Rows(n)
+    Ok(n)
 }

@@ -1,32 +1,19 @@
-use mathlib.Core.Path.{refl, ap, ◌∙◌}
-use mathlib.Core.List.{List}
-use lib.Seq.{take_all}
-use Prim.Native.Nat.{ℕ}
-use native.Mathlib.Omega.{arith}
-use borrow.Author.Rules.{rules}
-use lib.ListN.{length, get_or}
-use Rattle.expand.specs.Expand.{expansion_of}
-use Rattle.expand.proofs.Expansion.{later-few}
-use Rattle.expand.proofs.Steps.{count_more, count_fits}
+use Rattle.std.proofs.Common.{rules, ◌≡◌, ◌∙◌, ◌^◌, ◌≤◌, length, arith}
+use Rattle.std.specs.Prelude.{sum_by}
+use Rattle.std.proofs.iter.runs.Made.{chains}
+use Rattle.std.proofs.lemmas.Iterator.{YieldsList-from_slice}
+use Rattle.std.proofs.lemmas.Iterator.Adapters.{fits_from_length, at_most_from_yields_List}
+use Rattle.expand.specs.Expand.{rows_of}
+use Rattle.expand.proofs.Expansion.{count_sum, rows_few}
 use Rattle.expand.proofs.count_rows.Goals as goal
 
-pub loop-i-init : goal.loop-i-init
-unfolding expansion_of
-loop-i-init c = (omega arith, refl)
-
-pub overflow_add-n : goal.overflow_add-n
-overflow_add-n c =
-    let p = c.args.program.now in
-    let i = c.loop-i.i in
-    omega (arith, c.row_count-n.ensures, later-few (get_or p i 0), count_fits p i c.loop-i.invariant.0)
-
-pub loop-i-preserved : goal.loop-i-preserved
-loop-i-preserved c =
-    let p = c.args.program.now in
-    let i = c.loop-i.i in
-    (search rules, omega (arith, c.row_count-n.ensures, count_more p i c.loop-i-test.true))
+-- at most six rows for each word, of which memory holds less than 2^61
+pub sum-requires-clause-fits : goal.sum-requires-clause-fits
+sum-requires-clause-fits c =
+    let few : length c.args.program.now ≤ 2 ^ 61 = omega arith in
+    fits_from_length _ _ (2 ^ 61) (2 ^ 64) (at_most_from_yields_List (YieldsList-from_slice c.args.program.now cc) few) c.map.ensures.closure (omega arith) (λ x r q k. search (rules, rows_few))
 
 pub returns : goal.returns
 returns c =
-    let p = c.args.program.now in
-    c.loop-i.invariant.1 ∙ ap (λ (l : List ℕ). length (expansion_of l)) (take_all c.loop-i.i p c.loop-i-test.false)
+    let added : c.sum.result ≡ sum_by (λ raw. length (rows_of raw)) c.args.program.now = search (rules, chains) in
+    added ∙ count_sum c.args.program.now
