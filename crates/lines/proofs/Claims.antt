@@ -1,15 +1,15 @@
--- The laws of `decimal`, by induction on the number of digits. Assumes nothing.
+-- The laws of `decimal`, by the steps of what std prints. Assumes nothing.
 use mathlib.Core.Path.{◌≡◌, refl, sym, ◌∙◌}
 use mathlib.Core.Logic.{⊎_elim}
 use mathlib.Core.List.{List, [], ◌∷◌, ◌++◌}
-use Prim.Native.Nat.{ℕ, zero, suc, ◌+◌, ◌-◌, ◌*◌, ◌/◌, ◌%◌, ◌^◌, ◌≤◌, ◌<◌}
-use native.Mathlib.Nat.{eq-zero-or-pos, eq-or-lt_of_le, not-suc-le-zero}
+use Prim.Native.Nat.{ℕ, ◌+◌, ◌-◌, ◌*◌, ◌/◌, ◌%◌, ◌≤◌, ◌<◌}
+use native.Mathlib.Nat.{eq-or-lt_of_le, not-suc-le-zero}
 use native.Mathlib.Omega.{arith}
 use lib.ListN.{length, get_or, length-append, get_or-append}
 use lib.Seq.{get_or_at}
-use Rattle.lines.specs.Lines.{digits}
+use Rattle.std.proofs.lemmas.Fmt.{decimal_by_steps_wide}
 use Rattle.lines.specs.Claims.{value_from, Spells, Decimal}
-use Rattle.lines.proofs.Laws.{tenth_lt, digit_alone, digit-last, digits-few}
+use Rattle.lines.proofs.Laws.{decimal_is, decimal_alone, digits-few}
 
 value_last : (v c : ℕ) (ds : List ℕ) → value_from v (ds ++ (c ∷ [])) ≡ 10 * value_from v ds + (c - 48)
 value_last v c [] = refl
@@ -46,13 +46,9 @@ spelt_last n ds h s =
       some = omega (arith, length-append ds last);
     }
 
-spelt : (k n : ℕ) → n < 10 ^ suc k → Spells n (digits (suc k) n)
-spelt zero n h = rw (digit_alone zero n (omega arith)) (spelt_alone n (omega arith))
-spelt (suc k) n h =
-    ⊎_elim
-    (λ e. rw (digit_alone (suc k) n (omega arith)) (spelt_alone n (omega arith)))
-    (λ p. rw (digit-last (suc k) n (omega arith)) (spelt_last n (digits (suc k) (n / 10)) (omega arith) (spelt k (n / 10) (tenth_lt (suc k) n h))))
-    (eq-zero-or-pos (n / 10))
-
 pub decimal_holds : Decimal
-decimal_holds = record { spells = spelt 19; zero = digit_alone 19 0 (omega arith); few = digits-few 20 }
+decimal_holds = record {
+  spells = λ n h. rw (decimal_is n h) (decimal_by_steps_wide Spells spelt_alone spelt_last n (omega arith));
+  zero = decimal_alone 0 (omega arith);
+  few = digits-few 20;
+}

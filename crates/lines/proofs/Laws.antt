@@ -1,59 +1,114 @@
--- Texts put one behind the other, the steps of the loops, and the lengths of texts. Assumes nothing.
+-- The digits of a number, texts put one behind the other, and the lengths of texts. Assumes nothing.
 use mathlib.Core.Path.{◌≡◌, refl, sym, ap, ◌∙◌}
-use mathlib.Core.Logic.{⊎_elim}
-use mathlib.Core.List.{List, [], ◌∷◌, ◌++◌}
+use mathlib.Core.List.{List, [], ◌∷◌, ◌++◌, append_assoc, append-nil}
 use Prim.Native.Nat.{ℕ, zero, suc, ◌+◌, ◌-◌, ◌*◌, ◌/◌, ◌%◌, ◌^◌, ◌≤◌, ◌<◌}
-use native.Mathlib.Nat.{add-zero, zero-add, pow-suc, eq-zero-or-pos}
-use native.Mathlib.Numerals.{add-one}
+use mathlib.Core.Logic.{⊎_elim}
+use native.Mathlib.Nat.{eq-zero-or-pos}
 use native.Mathlib.Omega.{arith}
-use lib.ListN.{length, take, drop, get_or, set, length-append, length-take, drop_of_length-le}
-use lib.Seq.{sets, sets-eq, length-sets, drop-cons, drop-drop}
-use borrow.Author.Tests.{lt-ltb, le-ltb}
-use Rattle.lines.specs.Lines.{digits, decimal, number_text, line_of, lines_of, written}
-
--- ---- texts put one behind the other
-
--- xs and then ys behind it are xs ++ ys
-sets-append : (xs ys l : List ℕ) (i : ℕ) → sets (sets l i xs) (i + length xs) ys ≡ sets l i (xs ++ ys)
-sets-append [] ys l i = rw add-zero
-sets-append (x ∷ xs) ys l i =
-    let e : i + suc (length xs) ≡ suc i + length xs = omega arith in
-    rw e (sets-append xs ys (set l i x) (suc i))
+use native.Mathlib.Numerals.{add-one}
+use Rattle.std.proofs.Common.{rules}
+use Rattle.std.specs.Fmt.{decimal as printed}
+use Rattle.std.proofs.lemmas.Fmt.{AppendsLastDigit, decimal_from_appends_wide, decimal_step_wide, length-decimal-le_wide}
+use lib.ListN.{length, take, drop, get_or, set, length-append, length-take, length-drop, drop_of_length-le}
+use Rattle.std.proofs.lemmas.List.{take_all, take_at, drop_at, get_or-take, drop-take, take-take}
+use borrow.Rule.Slice.PartMut.{put_mid}
+use lib.Seq.{drop-cons, drop-drop, set_at}
+use Rattle.lines.specs.Lines.{digits, decimal, number_text, line_of, lines_of, answer_text, refused_text, written}
 
 -- ---- digits
 
--- a digit less
-pub tenth_lt : (k n : ℕ) → n < 10 ^ suc k → n / 10 < 10 ^ k
-tenth_lt k n h = let e : 10 ^ suc k ≡ 10 * 10 ^ k = rw pow-suc (omega arith) in omega arith
-
--- the digits of a number below 10
-pub digit_alone : (k n : ℕ) → n < 10 → digits (suc k) n ≡ (48 + n) ∷ []
+pub appends : AppendsLastDigit digits
 unfolding digits
-digit_alone k n h = rw (lt-ltb n 10)
+appends = search rules
 
--- the digits of another, and the last one
-pub digit-last : (k n : ℕ) → 10 ≤ n → digits (suc k) n ≡ digits k (n / 10) ++ ((48 + n % 10) ∷ [])
+-- what std's Display prints
+pub decimal_is : (n : ℕ) → n < 10 ^ 20 → decimal n ≡ printed n
+decimal_is n h = decimal_from_appends_wide digits appends 20 n (omega arith) (length-decimal-le_wide 20 n (omega arith) h (omega arith))
+
+-- the digits in front of the last one are none, or those of a tenth
+pub decimal_alone : (n : ℕ) → n < 10 → decimal n ≡ (48 + n % 10) ∷ []
+decimal_alone n h = let e : n % 10 ≡ n = omega arith in rw e (appends.one 19 n h)
+
+pub decimal-last : (n : ℕ) → 10 ≤ n → n < 10 ^ 20 → decimal n ≡ decimal (n / 10) ++ ((48 + n % 10) ∷ [])
+decimal-last n h l = decimal_is n l ∙ decimal_step_wide n h (omega arith) ∙ rw (decimal_is (n / 10) (omega arith))
+
+pub digits-few : (k n : ℕ) → length (digits k n) ≤ k
 unfolding digits
-digit-last k n h = rw (le-ltb n 10)
-
--- more places than the number has digits give nothing more
-more_places : (k n : ℕ) → n < 10 ^ suc k → digits (suc (suc k)) n ≡ digits (suc k) n
-more_places zero n h = let l : n < 10 = omega arith in digit_alone 1 n l ∙ sym (digit_alone 0 n l)
-more_places (suc k) n h =
+digits-few zero n = omega arith
+digits-few (suc k) n =
     ⊎_elim
-    (λ e. digit_alone (suc (suc k)) n (omega arith) ∙ sym (digit_alone (suc k) n (omega arith)))
-    (λ e. digit-last (suc (suc k)) n (omega arith) ∙ rw (more_places k (n / 10) (tenth_lt (suc k) n h)) (sym (digit-last (suc k) n (omega arith))))
+    (λ e. rw (appends.one k n (omega arith)) (omega arith))
+    (λ p. rw (appends.more k n (omega arith), length-append) (omega (arith, digits-few k (n / 10))))
     (eq-zero-or-pos (n / 10))
 
--- the digits of a u64
-pub decimal_alone : (n : ℕ) → n < 10 → decimal n ≡ (48 + n) ∷ []
-decimal_alone n h = digit_alone 19 n h
+-- ---- texts
 
-pub decimal-last : (n : ℕ) → 10 ≤ n → n < 2 ^ 64 → decimal n ≡ decimal (n / 10) ++ ((48 + n % 10) ∷ [])
-decimal-last n h l = digit-last 19 n h ∙ rw (more_places 18 (n / 10) (omega arith))
+-- a character put behind what is put of a text, which ends the text
+pub record Ended (put before out : List ℕ) (n c : ℕ) : Type 0 where
+  pub room : n < length out
+  pub length : n + 1 ≡ length put
+  pub text : set out n c ≡ written put before
 
-pub decimal_longer : (n : ℕ) → 10 ≤ n → n < 2 ^ 64 → length (decimal n) ≡ length (decimal (n / 10)) + 1
-decimal_longer n h l = rw (decimal-last n h l) (length-append (decimal (n / 10)) _)
+pub ended : {text before out : List ℕ} {n c : ℕ} (front : List ℕ) → text ≡ front ++ (c ∷ []) → length text ≤ length before
+    → n ≡ length front → out ≡ written front before → Ended text before out n c
+ended {text} {before} {out} {n} {c} front t h e o =
+    let long : length text ≡ length front + 1 = ap length t ∙ length-append front (c ∷ []) in
+    let room : length front < length before = omega arith in
+    record {
+      room = rw (o, length-append, length-drop) (omega arith);
+      length = omega arith;
+      text = rw (o, t, append_assoc, drop-cons before (length front) 0 room, length-append, ← add-one) (set_at front _ _ c n (sym e));
+    }
+
+-- ---- texts put one behind the other
+
+-- a part of a text is put, and the rest is still to be put
+pub record Put (before out : List ℕ) (next : ℕ) (text rest : List ℕ) : Type 0 where
+  pub part : List ℕ
+  pub is : text ≡ part ++ rest
+  pub ends : next ≡ length part
+  pub puts : out ≡ written part before
+
+pub none_put : (before text : List ℕ) → Put before before 0 text text
+none_put before text = record { part = []; is = refl; ends = refl; puts = refl }
+
+module _ {before out text rest : List ℕ} {next : ℕ} (more left : List ℕ) (p : Put before out next text rest) (e : rest ≡ more ++ left) (h : length text ≤ length before) where
+  lengths : length p.part + length more ≤ length before
+  lengths = omega (arith, ap length p.is, length-append p.part rest, ap length e, length-append more left)
+
+  long : length out ≡ length before
+  long = ap length p.puts ∙ length-append p.part _ ∙ rw length-drop (omega (arith, lengths))
+
+  behind : drop next out ≡ drop (length p.part) before
+  behind = rw (p.puts, p.ends) (drop_at p.part _ _ refl)
+
+  -- the next part fits behind
+  pub part_fits : (k : ℕ) → k ≡ length before - next → length more ≤ length (take k (drop next out))
+  part_fits k f = rw (behind, length-take, length-drop) (omega (arith, lengths, p.ends))
+
+  -- and is put there
+  pub part_put : {new : List ℕ} {n : ℕ} (k : ℕ) → k ≡ length before - next → n ≡ length more → new ≡ written more (take k (drop next out))
+      → Put before (put_mid next k out new) (next + n) text left
+  part_put {new} {n} k f en o = record {
+    part = p.part ++ more;
+    is = p.is ∙ rw (e, append_assoc);
+    ends = omega (arith, p.ends, length-append p.part more);
+    puts =
+        let front : take next out ≡ p.part = rw (p.puts, p.ends) (take_at p.part _ _ refl) in
+        let short : length (drop next out) ≤ k = rw (behind, length-drop) (omega (arith, p.ends)) in
+        let none : drop k (drop next out) ≡ [] = drop_of_length-le (drop next out) {i = k} short in
+        let all : take k (drop next out) ≡ drop next out = take_all k (drop next out) short in
+        let is : new ≡ more ++ drop (length p.part + length more) before = o ∙ rw (all, behind, drop-drop) in
+        rw (front, none, is, append-nil, append_assoc, length-append);
+  }
+
+-- a text of two parts of which the first is put
+pub first_put : {before out : List ℕ} {next : ℕ} (first rest : List ℕ) → next ≡ length first → out ≡ written first before → Put before out next (first ++ rest) rest
+first_put first rest e o = record { part = first; is = refl; ends = e; puts = o }
+
+-- nothing is left
+pub all_put : {before out text : List ℕ} {next : ℕ} → Put before out next text [] → (next ≡ length text) × (out ≡ written text before)
+all_put p = let e = p.is ∙ append-nil p.part in (p.ends ∙ ap length (sym e), rw e p.puts)
 
 -- ---- lines
 
@@ -62,87 +117,51 @@ unfolding number_text
 word_longer word mark = length-append (decimal word) _
 
 -- a comma behind each word but the last
-pub word_next : (ws : List ℕ) (i : ℕ) → i + 1 < length ws → line_of (drop i ws) ≡ number_text (get_or ws i 0) 44 ++ line_of (drop (i + 1) ws)
+pub word_next : (ws : List ℕ) (i : ℕ) → i < length (take (length ws - 1) ws)
+    → line_of (drop i ws) ≡ number_text (get_or (take (length ws - 1) ws) i 0) 44 ++ line_of (drop (i + 1) ws)
 unfolding line_of
 word_next ws i h =
+    let k : i < length ws - 1 = omega (arith, h, length-take (length ws - 1) ws) in
     let l : i < length ws = omega arith in
     let m : suc i < length ws = omega arith in
-    rw (add-one, drop-cons ws i 0, drop-cons ws (suc i) 0)
+    rw (get_or-take, add-one, drop-cons ws i 0, drop-cons ws (suc i) 0)
 
 -- and a line feed behind the last
-pub word-last : (ws : List ℕ) (i : ℕ) → i + 1 ≡ length ws → line_of (drop i ws) ≡ number_text (get_or ws i 0) 10
+pub word-last : (ws : List ℕ) (i : ℕ) → 0 < length ws → length (take (length ws - 1) ws) ≤ i → i ≤ length (take (length ws - 1) ws)
+    → line_of (drop i ws) ≡ number_text (get_or ws (length ws - 1) 0) 10 ++ []
 unfolding line_of
-word-last ws i h =
-    let l : i < length ws = omega arith in
-    let m : length ws ≤ suc i = omega arith in
-    rw (drop-cons ws i 0, drop_of_length-le ws {i = suc i} m)
+word-last ws i some low high =
+    let e : i ≡ length ws - 1 = omega (arith, low, high, length-take (length ws - 1) ws) in
+    let l : length ws - 1 < length ws = omega arith in
+    let m : length ws ≤ suc (length ws - 1) = omega arith in
+    rw (e, append-nil, drop-cons ws (length ws - 1) 0, drop_of_length-le ws {i = suc (length ws - 1)} m)
 
--- a record's line
-pub line-next : (records i : ℕ) (ws : List ℕ) → i < records
-    → lines_of (records - i) (drop (17 * i) ws) ≡ line_of (take (17 * i + 17 - 17 * i) (drop (17 * i) ws)) ++ lines_of (records - (i + 1)) (drop (17 * (i + 1)) ws)
+-- the lines of the records that words are
+abbrev pub records_text : List ℕ → List ℕ
+records_text ws = lines_of (length ws / 17) ws
+
+pub record_next : (ws line rest : List ℕ) → ws ≡ line ++ rest → length line ≡ 17 → records_text ws ≡ line_of line ++ records_text rest
 unfolding lines_of
-line-next records i ws h =
-    let e : records - i ≡ suc (records - (i + 1)) = omega arith in
-    let f : 17 * (i + 1) ≡ 17 * i + 17 = omega arith in
-    let g : 17 * i + 17 - 17 * i ≡ 17 = omega arith in
-    rw (e, f, g, drop-drop)
+record_next ws line rest e h =
+    let n : length (line ++ rest) / 17 ≡ suc (length rest / 17) = omega (arith, length-append line rest) in
+    rw (e, n, take_at line rest 17 h, drop_at line rest 17 h)
 
--- ---- what is put, and what is left
+pub record-none : (ws : List ℕ) → length ws < 17 → records_text ws ≡ []
+unfolding lines_of
+record-none ws h = let n : length ws / 17 ≡ 0 = omega arith in rw n
 
--- the rest, put at next, gives what the text gives at `at`
-pub record Rest (before : List ℕ) (at : ℕ) (text out : List ℕ) (next : ℕ) (rest : List ℕ) : Type 0 where
-  pub ends : next + length rest ≡ at + length text
-  pub puts : sets out next rest ≡ sets before at text
-  pub long : length out ≡ length before
+-- the first records of more words
+records_of_first : (n : ℕ) (ws : List ℕ) → lines_of n (take (17 * n) ws) ≡ lines_of n ws
+unfolding lines_of
+records_of_first zero ws = refl
+records_of_first (suc n) ws =
+    let e : 17 * suc n ≡ 17 + 17 * n = omega arith in
+    rw (e, take-take 17 (17 + 17 * n) ws (omega arith), drop-take 17 (17 * n) ws, records_of_first n (drop 17 ws))
 
-pub none_put : (before : List ℕ) (at : ℕ) (text : List ℕ) → Rest before at text before at text
-none_put before at text = record { ends = refl; puts = refl; long = refl }
-
-module _ {before text out : List ℕ} {at next : ℕ} where
-  -- a part of the rest is put
-  pub part-put : {rest out' : List ℕ} {next' : ℕ} (part more : List ℕ) → Rest before at text out next rest → rest ≡ part ++ more
-      → next' ≡ next + length part → out' ≡ sets out next part → Rest before at text out' next' more
-  part-put part more r e n o = record {
-    ends = omega (arith, r.ends, ap length e, length-append part more);
-    puts = rw (o, n) (sets-append part more out next ∙ rw (sym e) r.puts);
-    long = rw o (length-sets out next part ∙ r.long);
-  }
-
-  pub part-fits : {rest : List ℕ} (part more : List ℕ) → Rest before at text out next rest → rest ≡ part ++ more
-      → at + length text ≤ length before → next + length part ≤ length out
-  part-fits part more r e h = omega (arith, r, ap length e, length-append part more)
-
-  -- and then all that is left
-  pub last-put : {rest out' : List ℕ} {next' : ℕ} → Rest before at text out next rest
-      → next' ≡ next + length rest → out' ≡ sets out next rest → (next' ≡ at + length text) × (out' ≡ sets before at text)
-  last-put r n o = (n ∙ r.ends, o ∙ r.puts)
-
--- a text of two parts
-pub two_put : {text out out' : List ℕ} {next next' : ℕ} (before : List ℕ) (at : ℕ) (part more : List ℕ) → text ≡ part ++ more
-    → next ≡ at + length part → out ≡ sets before at part → next' ≡ next + length more → out' ≡ sets out next more
-    → (next' ≡ at + length text) × (out' ≡ sets before at text)
-two_put before at part more e n o n' o' = last-put (part-put part more (none_put before at _) e n o) n' o'
-
--- a text of two parts that is put first
-pub front_put : {mid out' : List ℕ} {next next' : ℕ} (out part more : List ℕ) → length part + length more ≤ length out
-    → next ≡ length part → mid ≡ sets out 0 part → next' ≡ next + length more → out' ≡ sets mid next more
-    → (next' ≡ length (part ++ more)) × (out' ≡ written (part ++ more) out)
-front_put out part more h n o n' o' =
-    let put = two_put {text = part ++ more} out 0 part more refl (n ∙ sym (zero-add _)) o n' o' in (
-      put.0 ∙ zero-add _,
-      put.1 ∙ sets-eq (part ++ more) out 0 (omega (arith, length-append part more)) ∙ rw zero-add,
-    )
+pub first_records : (n : ℕ) (ws : List ℕ) → 17 * n ≤ length ws → records_text (take (17 * n) ws) ≡ lines_of n ws
+first_records n ws h = let e : length (take (17 * n) ws) / 17 ≡ n = omega (arith, length-take (17 * n) ws) in rw e (records_of_first n ws)
 
 -- ---- every text fits
-
-pub digits-few : (k n : ℕ) → length (digits k n) ≤ k
-unfolding digits
-digits-few zero n = omega arith
-digits-few (suc k) n =
-    ⊎_elim
-    (λ e. rw (digit_alone k n (omega arith)) (omega arith))
-    (λ e. rw (digit-last k n (omega arith), length-append) (omega (arith, digits-few k (n / 10))))
-    (eq-zero-or-pos (n / 10))
 
 pub word-few : (word mark : ℕ) → length (number_text word mark) ≤ 21
 word-few word mark = omega (arith, word_longer word mark, digits-few 20 word)
@@ -165,7 +184,16 @@ lines_few (suc n) ws =
       lines_few n (drop 17 ws),
     )
 
-pub answer_fits : (live records output : ℕ) (words : List ℕ) → records ≤ 256
-    → length (line_of (live ∷ records ∷ output ∷ [])) + length (lines_of records words) ≤ 91455
+pub answer_fits : (live records output : ℕ) (words : List ℕ) → records ≤ 256 → length (answer_text live records output words) ≤ 91455
+unfolding answer_text
 answer_fits live records output words h =
-    omega (arith, line-few (live ∷ records ∷ output ∷ []) 3 (omega arith) (omega arith), lines_few records words)
+    omega (
+      arith,
+      length-append (line_of (live ∷ records ∷ output ∷ [])) (lines_of records words),
+      line-few (live ∷ records ∷ output ∷ []) 3 (omega arith) (omega arith),
+      lines_few records words,
+    )
+
+pub refused_fits : (number : ℕ) → length (refused_text number) ≤ 91455
+unfolding refused_text
+refused_fits number = omega (arith, word-few number 10)

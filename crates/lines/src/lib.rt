@@ -7,8 +7,7 @@
 // a line live,records,output and a line of 17 words for each record; or the line refused,number.
 #![tactic(auto)]
 
-ghost use Rattle.std.specs.Prelude.{◌≡◌, ◌+◌, ◌*◌, ◌≤◌, ◌<◌, min, length};
-ghost use Rattle.std.proofs.lemmas.List.Edits.{sets};
+ghost use Rattle.std.specs.Prelude.{◌≡◌, ◌/◌, ◌≤◌, ◌<◌, min, length};
 ghost use Rattle.lines.specs.Lines.{decimal, number_text, line_of, lines_of, answer_text, refused_text, written};
 ghost use Rattle.lines.specs.Claims.{Decimal};
 
@@ -21,80 +20,61 @@ pub const WORDS: usize = 4352;
 // Room for every text: 3 + 256 * 17 words, each of at most 20 digits and the character behind it.
 pub const TEXT: usize = 91455;
 
-// Each function below puts a text at `at` and returns the place behind it.
+// The words of a record.
+const RECORD_WORDS: usize = 17;
 
-// The decimal digits of a number.
-fn put_decimal(n: u64, at: usize, out: &mut [u8]) -> usize
-    requires { at + length (decimal n) ≤ length out.old }
-    ensures { (result ≡ at + length (decimal n)) × (out.new ≡ sets out.old at (decimal n)) }
+// Each function below puts a text first in `out` and returns its length.
+
+// The decimal digits of a number. Not by std's Display: the recorder names nothing of std but its arithmetic.
+fn put_decimal(n: u64, out: &mut [u8]) -> usize
+    requires { length (decimal n) ≤ length out.old }
+    ensures length { result ≡ length (decimal n) }
+    ensures text { out.new ≡ written (decimal n) out.old }
 {
-    if n < 10 {
-        out[at] = 48 + n as u8;
-        return at + 1;
-    }
-    let last = put_decimal(n / 10, at, out);
-    out[last] = 48 + (n % 10) as u8;
-    last + 1
+    let front = if n < 10 { 0 } else { put_decimal(n / 10, out) };
+    out[front] = b'0' + (n % 10) as u8;
+    front + 1
 }
 
 // A number and the character behind it.
-fn put_number(n: u64, mark: u8, at: usize, out: &mut [u8]) -> usize
-    requires { at + length (number_text n mark) ≤ length out.old }
-    ensures { (result ≡ at + length (number_text n mark)) × (out.new ≡ sets out.old at (number_text n mark)) }
+fn put_number(n: u64, mark: u8, out: &mut [u8]) -> usize
+    requires { length (number_text n mark) ≤ length out.old }
+    ensures length { result ≡ length (number_text n mark) }
+    ensures text { out.new ≡ written (number_text n mark) out.old }
 {
-    let last = put_decimal(n, at, out);
-    out[last] = mark;
-    last + 1
+    let digits = put_decimal(n, out);
+    out[digits] = mark;
+    digits + 1
 }
 
 // A line.
-fn put_line(words: &[u64], at: usize, out: &mut [u8]) -> usize
-    requires { (0 < length words.now) × (at + length (line_of words.now) ≤ length out.old) }
-    ensures { (result ≡ at + length (line_of words.now)) × (out.new ≡ sets out.old at (line_of words.now)) }
+fn put_line(words: &[u64], out: &mut [u8]) -> usize
+    requires some { 0 < length words.now }
+    requires room { length (line_of words.now) ≤ length out.old }
+    ensures length { result ≡ length (line_of words.now) }
+    ensures text { out.new ≡ written (line_of words.now) out.old }
 {
-    let last = words.len() - 1;
-    let mut next = at;
-    let mut i: usize = 0;
-    while i < last {
-        next = put_number(words[i], b',', next, out);
-        i += 1;
+    let [front @ .., last] = words else {
+        unreachable!()
+    };
+    let mut next = 0;
+    for word in front {
+        next += put_number(*word, b',', &mut out[next..]);
     }
-    put_number(words[i], b'\n', next, out)
+    next + put_number(*last, b'\n', &mut out[next..])
 }
 
-// The lines of so many records.
-fn put_lines(records: usize, words: &[u64], at: usize, out: &mut [u8]) -> usize
-    requires { (17 * records ≤ length words.now) × (at + length (lines_of records words.now) ≤ length out.old) }
-    ensures { (result ≡ at + length (lines_of records words.now)) × (out.new ≡ sets out.old at (lines_of records words.now)) }
+// The lines of the records that the words are.
+fn put_lines(words: &[u64], out: &mut [u8]) -> usize
+    requires { length (lines_of (length words.now / 17) words.now) ≤ length out.old }
+    ensures length { result ≡ length (lines_of (length words.now / 17) words.now) }
+    ensures text { out.new ≡ written (lines_of (length words.now / 17) words.now) out.old }
 {
-    let mut next = at;
-    let mut i: usize = 0;
-    while i < records {
-        next = put_line(&words[17 * i..17 * i + 17], next, out);
-        i += 1;
+    let mut next = 0;
+    for record in words.chunks_exact(RECORD_WORDS) {
+        next += put_line(record, &mut out[next..]);
     }
     next
-}
-
-// A text as it is.
-fn put_text(text: &[u8], out: &mut [u8]) -> usize
-    requires { length text.now ≤ length out.old }
-    ensures { (result ≡ length text.now) × (out.new ≡ sets out.old 0 text.now) }
-{
-    let mut i: usize = 0;
-    while i < text.len() {
-        out[i] = text[i];
-        i += 1;
-    }
-    i
-}
-
-// At most 256.
-fn capped(count: u64) -> u64
-    ensures { result ≡ min count 256 }
-{
-    let most = RECORDS as u64;
-    if count < most { count } else { most }
 }
 
 // An answer's text, put first in `out`; its length. A count over 256 is taken as 256.
@@ -108,10 +88,9 @@ pub fn put_answer(
     ensures length { result ≡ length (answer_text live (min count 256) output words.now) }
     ensures text { out.new ≡ written (answer_text live (min count 256) output words.now) out.old }
 {
-    let records = capped(count);
-    let first = [live, records, output];
-    let next = put_line(&first, 0, out);
-    put_lines(records as usize, words, next, out)
+    let records = count.min(RECORDS as u64);
+    let first = put_line(&[live, records, output], out);
+    first + put_lines(&words[..RECORD_WORDS * records as usize], &mut out[first..])
 }
 
 // A refusal's text, put first in `out`; its length.
@@ -119,8 +98,9 @@ pub fn put_refused(number: u64, out: &mut [u8; TEXT]) -> usize
     ensures length { result ≡ length (refused_text number) }
     ensures text { out.new ≡ written (refused_text number) out.old }
 {
-    let next = put_text(b"refused,", out);
-    put_number(number, b'\n', next, out)
+    let name = b"refused,";
+    out[..name.len()].copy_from_slice(name);
+    name.len() + put_number(number, b'\n', &mut out[name.len()..])
 }
 
 // What makes `decimal` the decimal digits (specs/Claims.antt). The function does nothing; its contract is the claim.

@@ -1,35 +1,33 @@
 -- `lines::put_line` meets its contract. Assumes nothing.
-use mathlib.Core.Path.{ap}
+use mathlib.Core.List.{[]}
+use Prim.Native.Nat.{◌-◌}
 use native.Mathlib.Omega.{arith}
-use lib.ListN.{length, get_or}
+use lib.ListN.{length, take, get_or}
 use Rattle.lines.specs.Lines.{number_text}
-use Rattle.lines.proofs.Laws.{none_put, part-put, part-fits, last-put, word_next, word-last}
+use Rattle.lines.proofs.Laws.{part_fits, part_put, all_put, word_next, word-last}
 use Rattle.lines.proofs.put_line.Goals as goal
 
 pub put_number-next-requires : goal.put_number-next-requires
 put_number-next-requires c =
-    let l = c.loop-i in
-    part-fits (number_text (get_or c.args.words.now l.i 0) 44) _ l.invariant.1 (word_next _ l.i (omega arith)) c.requires.1
+    let l = c.loop-word in
+    part_fits (number_text (get_or (take (length c.args.words.now - 1) c.args.words.now) l.word-index 0) 44) _ l.invariant (word_next _ l.word-index (omega arith)) c.requires.room _ (omega arith)
 
-pub loop-i-preserved : goal.loop-i-preserved
-loop-i-preserved c =
+pub loop-word-preserved : goal.loop-word-preserved
+loop-word-preserved c =
+    let l = c.loop-word in
     let put = c.put_number-next.ensures in
-    let l = c.loop-i in
-    let words = c.args.words.now in
-    (omega arith, part-put (number_text (get_or words l.i 0) 44) _ l.invariant.1 (word_next words l.i (omega arith)) put.0 put.1)
+    part_put (number_text (get_or (take (length c.args.words.now - 1) c.args.words.now) l.word-index 0) 44) _ l.invariant (word_next _ l.word-index (omega arith)) c.requires.room _ (omega arith) put.length put.text
 
 pub put_number-requires : goal.put_number-requires
 put_number-requires c =
-    let l = c.loop-i in
-    omega (arith, l.invariant.1, ap length (word-last c.args.words.now l.i (omega arith)))
+    let ws = c.args.words.now in
+    let l = c.loop-word in
+    part_fits (number_text (get_or ws (length ws - 1) 0) 10) [] l.invariant (word-last ws l.word-index c.requires.some c.loop-word-test.false l.auto.word-index-end) c.requires.room _ (omega arith)
 
 pub returns : goal.returns
 returns c =
+    let ws = c.args.words.now in
+    let l = c.loop-word in
     let put = c.put_number.ensures in
-    let l = c.loop-i in
-    let words = c.args.words.now in
-    let e = word-last words l.i (omega arith) in
-    last-put (rw e at l.invariant.1) put.0 put.1
-
-pub loop-i-init : goal.loop-i-init
-loop-i-init c = (omega arith, none_put _ _ _)
+    let all = all_put (part_put (number_text (get_or ws (length ws - 1) 0) 10) [] l.invariant (word-last ws l.word-index c.requires.some c.loop-word-test.false l.auto.word-index-end) c.requires.room _ (omega arith) put.length put.text) in
+    record { length = all.0; text = all.1 }

@@ -1,13 +1,11 @@
 -- `lines::put_lines` meets its contract. Assumes nothing.
-use Prim.Native.Nat.{◌≤◌, ◌-◌, ◌*◌}
-use lib.ListN.{drop}
-use Rattle.lines.specs.Lines.{lines_of}
-use Rattle.lines.proofs.Laws.{Rest}
+use mathlib.Core.Path.{◌≡◌}
+use Rattle.std.specs.Slice.Iter.{chunks_exact_rest, chunks_exact_size}
+use Rattle.lines.proofs.Laws.{Put, records_text}
 use Rattle.lines.proofs.put_lines.Given as goal
 
-abbrev pub invariant-loop-i : goal.invariant-loop-i
-invariant-loop-i l =
-    (l.i ≤ l.records) × Rest l.fn.out l.at (lines_of l.records l.words) l.out l.next (lines_of (l.records - l.i) (drop (17 * l.i) l.words))
-
-abbrev pub decreases-loop-i : goal.decreases-loop-i
-decreases-loop-i l = l.records - l.i
+abbrev pub invariant-loop-record : goal.invariant-loop-record
+invariant-loop-record l = record {
+  size : chunks_exact_size l.record-iterator ≡ 17;
+  put : Put l.fn.out l.out l.next (records_text l.words) (records_text (chunks_exact_rest l.record-iterator));
+}

@@ -1,26 +1,20 @@
 -- `lines::put_number` meets its contract. Assumes nothing.
 use mathlib.Core.Path.{refl}
-use mathlib.Core.List.{[], ◌∷◌}
 use native.Mathlib.Omega.{arith}
 use Rattle.lines.specs.Lines.{decimal, number_text}
-use Rattle.lines.proofs.Laws.{two_put, word_longer}
+use Rattle.lines.proofs.Laws.{Ended, ended, word_longer}
 use Rattle.lines.proofs.put_number.Goals as goal
+use Rattle.lines.proofs.put_number.Goals.{After-put_decimal-digits}
 
-pub put_decimal-last-requires : goal.put_decimal-last-requires
-put_decimal-last-requires c = omega (arith, word_longer c.args.n c.args.mark)
+pub put_decimal-digits-requires : goal.put_decimal-digits-requires
+put_decimal-digits-requires c = omega (arith, word_longer c.args.n c.args.mark)
 
-pub bounds-out-last : goal.bounds-out-last
-bounds-out-last c =
-    let a = c.args in
-    let put = c.put_decimal-last in
-    omega (arith, put.ensures, put.auto, word_longer a.n a.mark)
+at_end : (c : After-put_decimal-digits) → Ended (number_text c.args.n c.args.mark) c.args.out.now c.put_decimal-digits.new.out c.put_decimal-digits.result c.args.mark
+unfolding number_text
+at_end c = ended (decimal c.args.n) refl c.requires c.put_decimal-digits.ensures.length c.put_decimal-digits.ensures.text
 
-pub overflow_add-result : goal.overflow_add-result
-overflow_add-result c = omega (arith, c.put_decimal-last.ensures, word_longer c.args.n c.args.mark)
+pub bounds-out-digits : goal.bounds-out-digits
+bounds-out-digits c = (at_end (goal.at.bounds-out-digits c).After-put_decimal-digits).room
 
 pub returns : goal.returns
-unfolding number_text
-returns c =
-    let a = c.args in
-    let put = c.put_decimal-last.ensures in
-    two_put a.out.now a.at (decimal a.n) (a.mark ∷ []) refl put.0 put.1 refl refl
+returns c = let e = at_end (goal.at.returns c).After-put_decimal-digits in record { length = e.length; text = e.text }

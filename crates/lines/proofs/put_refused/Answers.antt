@@ -1,19 +1,31 @@
 -- `lines::put_refused` meets its contract. Assumes nothing.
+use mathlib.Core.Path.{refl, sym}
+use mathlib.Core.List.{[], ◌++◌, append-nil}
+use Prim.Native.Nat.{◌≤◌}
 use native.Mathlib.Omega.{arith}
+use borrow.Rule.Slice.PartMut.{post_of}
+use lib.ListN.{length}
 use Rattle.lines.specs.Lines.{codes, number_text, refused_text}
-use Rattle.lines.proofs.Laws.{front_put, word-few}
+use Rattle.lines.proofs.Laws.{Put, first_put, part_fits, part_put, all_put, refused_fits}
 use Rattle.lines.proofs.put_refused.Goals as goal
+use Rattle.lines.proofs.put_refused.Goals.{After-copy_from_slice}
+
+-- the name is put, and the number is left
+name_put : (c : After-copy_from_slice) → Put c.args.out.now (c.copy_from_slice.new.self ++ post_of 0 8 c.args.out.now) 8 (refused_text c.args.number) (number_text c.args.number 10)
+unfolding refused_text
+name_put c = first_put (codes "refused,") _ refl (rw c.copy_from_slice.ensures.after)
+
+room : (c : After-copy_from_slice) → length (refused_text c.args.number) ≤ length c.args.out.now
+room c = omega (arith, refused_fits c.args.number)
 
 pub put_number-requires : goal.put_number-requires
 put_number-requires c =
-    let put = c.put_text-next in
-    omega (arith, put.ensures, put.auto, word-few c.args.number 10)
+    let d = (goal.at.put_number-requires c).After-copy_from_slice in
+    part_fits (number_text c.args.number 10) [] (name_put d) (sym (append-nil _)) (room d) 91447 (omega arith)
 
 pub returns : goal.returns
-unfolding refused_text
 returns c =
-    let a = c.args in
-    let first = c.put_text-next.ensures in
-    let rest = c.put_number.ensures in
-    let put = front_put a.out.now (codes "refused,") (number_text a.number 10) (omega (arith, word-few a.number 10)) first.0 first.1 rest.0 rest.1 in
-    record { length = put.0; text = put.1 }
+    let d = (goal.at.returns c).After-copy_from_slice in
+    let put = c.put_number.ensures in
+    let all = all_put (part_put (number_text c.args.number 10) [] (name_put d) (sym (append-nil _)) (room d) 91447 (omega arith) put.length put.text) in
+    record { length = all.0; text = all.1 }
