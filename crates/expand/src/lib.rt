@@ -227,13 +227,15 @@ pub fn inst_to_micro(starts: &[u64], at: InstPos) -> Option<MicroPc>
 
 // Whether the lower half of a row word is a register shift: opcode 0x33 with funct3 1 or 5. One mask and no call of the
 // decoder, since every call of the layer above tests all its rows.
+#[tactic(auto, using(crate::proofs::Shifts::tells))]
 fn is_reg_shift(v: u64) -> bool
     ensures { result ≡ is_reg_shift (v % 2 ^ 32) }
 {
     v & 0x307f == 0x1033
 }
 
-// Whether stages 1 to 5 of the word v follow the first row.
+// Whether stages 1 to 5 of the word v follow the first row. The loop goes over k, which is the stage as well as the place of its row.
+#[tactic(auto, using(crate::proofs::Follow::short, crate::proofs::Follow::stage_hit, crate::proofs::Follow::stage_miss), unfolding(crate::specs::Code::begins_with))]
 fn stages_after(rows: &[u64], v: u64) -> bool
     requires { v < 2 ^ 32 }
     ensures { result ≡ stages_after rows.now v }
@@ -250,6 +252,7 @@ fn stages_after(rows: &[u64], v: u64) -> bool
 }
 
 // Whether the rows are the expansion of a program of any length, in one pass. Refusal 3 is its answer false.
+#[tactic(auto, using(crate::proofs::Follow::turn_one, crate::proofs::Follow::turn_last, crate::proofs::Follow::stages_fit))]
 pub fn is_expansion(rows: &[u64]) -> bool
     ensures { result ≡ is_expansion rows.now }
 {
@@ -273,11 +276,13 @@ pub fn is_expansion(rows: &[u64]) -> bool
 }
 
 // The test passes exactly the expansions (specs/Claims.antt).
+#[tactic(auto, using(crate::proofs::Laws::decides))]
 pub fn expansion_test()
     ensures { Decides }
 {}
 
 // What the layer above uses of rows and expansions, over their definitions (specs/Claims.antt).
+#[tactic(auto, using(crate::proofs::Laws::laws))]
 pub fn expansion_laws()
     ensures { ExpansionLaws }
 {}
@@ -301,7 +306,8 @@ fn count_rows(program: &[u32]) -> usize
     program.iter().map(|raw| row_count(*raw)).sum()
 }
 
-// Writes the rows of a word from `at` on, and answers the position after them.
+// Writes the rows of a word from `at` on, and answers the position after them. Row k is stage k, so the loop goes over k.
+#[tactic(auto, using(crate::proofs::Expansion::rows_few, crate::proofs::Steps::put_more))]
 fn put(rows: &mut [u64], at: MicroPc, raw: u32) -> MicroPc
     requires { at.0 + length (rows_of raw) ≤ length rows.old }
     ensures next { result.0 ≡ at.0 + length (rows_of raw) }
@@ -316,6 +322,7 @@ fn put(rows: &mut [u64], at: MicroPc, raw: u32) -> MicroPc
 }
 
 // Writes the rows and the starts of a program to the first places of the two buffers.
+#[tactic(auto, using(crate::proofs::Expansion::room))]
 fn fill(program: &[u32], rows: &mut [u64], starts: &mut [u64])
     requires { (length (expansion_of program.now) ≤ length rows.old) × (length program.now ≤ length starts.old) }
     ensures rows { rows.new ≡ expansion_of program.now ++ drop (length (expansion_of program.now)) rows.old }

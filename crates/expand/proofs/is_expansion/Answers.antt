@@ -1,6 +1,6 @@
 use Rattle.std.proofs.Common.{◌≡◌, sym, ap, ◌∙◌, drop, true, false, ◌&&◌}
 use Rattle.expand.specs.Expand.{is_expansion}
-use Rattle.expand.proofs.Follow.{turn_none, stages_fit, turn_six, turn_one, turn_last}
+use Rattle.expand.proofs.Follow.{turn_none, turn_six}
 use Rattle.expand.proofs.is_expansion.Goals.{After-stages_after}
 use Rattle.expand.proofs.is_expansion.Goals as goal
 
@@ -21,20 +21,7 @@ returns-then-not-stages_after c =
     let no : c.stages_after.result ≡ false = c.if-not-stages_after.true in
     rw no at (six (goal.at.returns-then-not-stages_after c).After-stages_after)
 
-pub split_at-requires : goal.split_at-requires
-split_at-requires c =
-    let yes : c.stages_after.result ≡ true = c.if-not-stages_after.false in
-    stages_fit _ _ (sym c.stages_after.ensures ∙ yes)
-
 pub loop-first-preserved-then-is_reg_shift : goal.loop-first-preserved-then-is_reg_shift
 loop-first-preserved-then-is_reg_shift c =
     let yes : c.stages_after.result ≡ true = c.if-not-stages_after.false in
     ap is_expansion c.split_at.ensures.back ∙ rw yes at (six (goal.at.loop-first-preserved-then-is_reg_shift c).After-stages_after)
-
-pub loop-first-preserved : goal.loop-first-preserved
-loop-first-preserved c =
-    let at = c.in-Some in
-    turn_one c.loop-first.rest.now at.after.now at.first.now at.ensures.cases.0 c.is_reg_shift.result c.if-v-ge4294967296.false c.is_reg_shift.ensures c.if-is_reg_shift.false ∙ c.loop-first.invariant
-
-pub returns : goal.returns
-returns c = sym (turn_last c.loop-first.rest.now c.in_default.ensures.cases) ∙ c.loop-first.invariant
