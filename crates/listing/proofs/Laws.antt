@@ -1,9 +1,7 @@
 -- What a turn of each loop does, and the stores of a line against its text. Assumes nothing.
-use Rattle.std.proofs.Common.{◌≡◌, ℕ, zero, suc, ◌+◌, ◌-◌, ◌*◌, ◌/◌, ◌%◌, ◌^◌, ◌<◌, ◌≤◌, List, [], ◌∷◌, get_or, set, refl, not-suc-le-zero, add-zero, mul-le-mul_right, suc-mul, pow-suc, add-one, arith, le-ltb, lt-ltb, eq-eqb, ne_eqb}
+use Rattle.std.proofs.Common.{◌≡◌, ℕ, zero, suc, ◌+◌, ◌-◌, ◌*◌, ◌/◌, ◌%◌, ◌^◌, ◌<◌, ◌≤◌, List, [], ◌∷◌, None, Some, Ok, Err, ◌++◌, length, replicate, get_or, set, refl, not-suc-le-zero, add-zero, mul-le-mul_right, suc-mul, pow-suc, add-one, arith, le-ltb, lt-ltb, eq-eqb, ne_eqb}
 use native.Mathlib.Numerals.{unary_clauses}
 use native.Mathlib.Nat.{pow-le-pow_right}
-use Rattle.listing.specs.declared.Parsed.TheVariants.{Bad}
-use Rattle.listing.specs.declared.Compared.TheVariants.{Same, Differs}
 use Rattle.decode.specs.declared.Inst.{Inst}
 use Rattle.decode.specs.declared.Opcode.{Opcode}
 use Rattle.decode.specs.declared.Opcode.TheVariants.{Lui, Auipc, Jal, Jalr, Branch, Load, Store, OpImm, Op, OpImm32, Op32, Fence, Ecall, Ebreak, Invalid}
@@ -24,6 +22,27 @@ digit-put line at (suc i) base v h = simp unary_clauses
 
 data Seven : List ℕ → Type 0 where
   seven : (a b c d e f g : ℕ) → Seven (a ∷ b ∷ c ∷ d ∷ e ∷ f ∷ g ∷ [])
+
+seven_of : (text : List ℕ) → length text ≡ 7 → Seven text
+seven_of [] h = absurd (omega arith)
+seven_of (a ∷ []) h = absurd (omega arith)
+seven_of (a ∷ b ∷ []) h = absurd (omega arith)
+seven_of (a ∷ b ∷ d ∷ []) h = absurd (omega arith)
+seven_of (a ∷ b ∷ d ∷ e ∷ []) h = absurd (omega arith)
+seven_of (a ∷ b ∷ d ∷ e ∷ f ∷ []) h = absurd (omega arith)
+seven_of (a ∷ b ∷ d ∷ e ∷ f ∷ g ∷ []) h = absurd (omega arith)
+seven_of (a ∷ b ∷ d ∷ e ∷ f ∷ g ∷ i ∷ []) h = seven a b d e f g i
+seven_of (a ∷ b ∷ d ∷ e ∷ f ∷ g ∷ i ∷ j ∷ text) h = absurd (omega arith)
+
+seven_marked : (mark : ℕ) {text : List ℕ} → Seven text
+    → set (set (replicate 9 32 ++ text ++ replicate 32 32) 28 mark) 47 10 ≡ blank text mark
+unfolding blank
+seven_marked mark (seven a b c d e f g) = refl
+
+-- spaces, in which a text of seven characters, a mark and a line feed are set
+pub blank_made : (mark : ℕ) (text : List ℕ) → length text ≡ 7
+    → set (set (replicate 9 32 ++ text ++ replicate 32 32) 28 mark) 47 10 ≡ blank text mark
+blank_made mark text h = seven_marked mark (seven_of text h)
 
 name_seven : (op : Opcode) → Seven (name_of op)
 unfolding name_of
@@ -66,15 +85,15 @@ module _ (raw rd rs1 rs2 funct3 imm v : ℕ) where
   unfolding columns put_digits put_fields blank
   row_filled (seven a b c d e f g) = refl
 
-pub line_made : (d : Inst) {a b e : List ℕ} → a ≡ blank (name_of d.opcode) 32
+pub line_made : (d : Inst) {name a b e : List ℕ} → name ≡ name_of d.opcode → a ≡ blank name 32
     → b ≡ put_fields a d.raw d.rd d.rs1 d.rs2 d.funct3 d.imm
     → e ≡ put_digits b 28 2 16 d.funct7 → e ≡ line_of_inst d
-line_made d p q r = cc (word_filled d.raw d.rd d.rs1 d.rs2 d.funct3 d.imm d.funct7 (name_seven d.opcode))
+line_made d n p q r = cc (word_filled d.raw d.rd d.rs1 d.rs2 d.funct3 d.imm d.funct7 (name_seven d.opcode))
 
-pub row_made : (r : RomRow) (k : ℕ) {a b e : List ℕ} → a ≡ blank (kind_name r.kind) 43
+pub row_made : (r : RomRow) (k : ℕ) {name a b e : List ℕ} → name ≡ kind_name r.kind → a ≡ blank name 43
     → b ≡ put_fields a r.raw r.rd r.rs1 r.rs2 r.funct3 r.imm
     → e ≡ put_digits b 29 1 10 k → e ≡ line_of_row r k
-row_made r k p q s = cc (row_filled r.raw r.rd r.rs1 r.rs2 r.funct3 r.imm k (kind_seven r.kind))
+row_made r k n p q s = cc (row_filled r.raw r.rd r.rs1 r.rs2 r.funct3 r.imm k (kind_seven r.kind))
 
 -- ---- the numbers of a line
 
@@ -83,14 +102,18 @@ module _ (base n i v : ℕ) (h : i < n) where
   left : n - i ≡ suc (n - (i + 1))
   left = omega arith
 
-  pub digit-read : (line : List ℕ) (at : ℕ) → hex_value (get_or line (at + i) 0) < base
-      → number_from base (n - (i + 1)) (at + (i + 1)) (v * base + hex_value (get_or line (at + i) 0)) line ≡ number_from base (n - i) (at + i) v line
-  unfolding number_from
-  digit-read line at d = let f : at + (i + 1) ≡ at + i + 1 = omega arith in rw (left, f, lt-ltb _ _ d)
+  module _ (line : List ℕ) (at d : ℕ) (here : hex_value (get_or line (at + i) 0) ≡ Some d) where
+    pub digit-read : d < base → number_from base (n - (i + 1)) (at + (i + 1)) (v * base + d) line ≡ number_from base (n - i) (at + i) v line
+    unfolding number_from
+    digit-read below = let f : at + (i + 1) ≡ at + i + 1 = omega arith in rw (left, f, here, lt-ltb _ _ below)
 
-  pub no_digit : (line : List ℕ) (at : ℕ) → base ≤ hex_value (get_or line (at + i) 0) → Bad ≡ number_from base (n - i) (at + i) v line
+    pub digit_past : base ≤ d → None ≡ number_from base (n - i) (at + i) v line
+    unfolding number_from
+    digit_past past = rw (left, here, le-ltb _ _ past)
+
+  pub no_digit : (line : List ℕ) (at : ℕ) → hex_value (get_or line (at + i) 0) ≡ None → None ≡ number_from base (n - i) (at + i) v line
   unfolding number_from
-  no_digit line at d = rw (left, le-ltb _ _ d)
+  no_digit line at here = rw (left, here)
 
   pub digit-fits : (d : ℕ) → v < base ^ i → d < base → base ^ n ≤ 2 ^ 32 → (v * base + d < base ^ (i + 1)) × (v * base + d < 2 ^ 32)
   digit-fits d k l m =
@@ -113,10 +136,10 @@ module _ (stored made : List ℕ) (i n : ℕ) (h : i < 48) where
   unfolding compare_from
   place_same p q = rw (next, ne_eqb _ _ p, eq-eqb _ _ q)
 
-  pub place_differs : (get_or stored i 0 ≡ 46 → ⊥) → (get_or stored i 0 ≡ get_or made i 0 → ⊥) → Differs i ≡ compare_from (48 - i) i n stored made
+  pub place_differs : (get_or stored i 0 ≡ 46 → ⊥) → (get_or stored i 0 ≡ get_or made i 0 → ⊥) → Err i ≡ compare_from (48 - i) i n stored made
   unfolding compare_from
   place_differs p q = rw (next, ne_eqb _ _ p, ne_eqb _ _ q)
 
-pub all_passed : (stored made : List ℕ) (i n : ℕ) → i ≡ 48 → Same n ≡ compare_from (48 - i) i n stored made
+pub all_passed : (stored made : List ℕ) (i n : ℕ) → i ≡ 48 → Ok n ≡ compare_from (48 - i) i n stored made
 unfolding compare_from
 all_passed stored made i n e = rw e

@@ -1,16 +1,13 @@
 -- A listing line, and what a line with a stored answer comes to. Assumes nothing.
-use Rattle.std.specs.Prelude.{ℕ, zero, suc, ◌+◌, ◌-◌, ◌*◌, ◌/◌, ◌%◌, ◌^◌, Bool, cond, ◌||◌, List, [], ◌∷◌, ◌++◌, ◌==◌, nat_le, nat_lt, slice_index}
+use Rattle.std.specs.Prelude.{ℕ, zero, suc, ◌+◌, ◌-◌, ◌*◌, ◌/◌, ◌%◌, ◌^◌, Bool, cond, ◌||◌, List, [], ◌∷◌, ◌++◌, ◌==◌, nat_le, nat_lt, slice_index, Option, None, Some, Result, Ok, Err}
+use Rattle.std.specs.Option.{option_and_then}
 use Rattle.decode.specs.Decode.{decode_of}
 use Rattle.decode.specs.declared.Inst.{Inst}
 use Rattle.decode.specs.declared.Opcode.{Opcode}
 use Rattle.decode.specs.declared.Opcode.TheVariants.{Lui, Auipc, Jal, Jalr, Branch, Load, Store, OpImm, Op, OpImm32, Op32, Fence, Ecall, Ebreak, Invalid}
 use Rattle.listing.specs.Text.{codes}
-use Rattle.listing.specs.declared.Parsed.{Parsed}
-use Rattle.listing.specs.declared.Parsed.TheVariants.{Number, Bad}
-use Rattle.listing.specs.declared.Compared.{Compared}
-use Rattle.listing.specs.declared.Compared.TheVariants.{Same, Differs}
-use Rattle.listing.specs.declared.Judged.{Judged}
-use Rattle.listing.specs.declared.Judged.TheVariants.{NoLine, Same as JSame, Differs as JDiffers}
+use Rattle.listing.specs.declared.Wrong.{Wrong}
+use Rattle.listing.specs.declared.Wrong.TheVariants.{NoLine, Differs}
 
 -- ---- the line of a word
 
@@ -66,21 +63,20 @@ word_line_of raw = line_of_inst (decode_of raw)
 
 -- ---- the numbers of a line
 
--- the value of a lower-case hex digit's character, and 16 for any other
-unfoldable pub hex_value : ℕ → ℕ
-hex_value c = cond (nat_lt c 48) 16 (cond (nat_le c 57) (c - 48) (cond (nat_lt c 97) 16 (cond (nat_le c 102) (c - 87) 16)))
+-- the value of a lower-case hex digit's character; none for any other
+unfoldable pub hex_value : ℕ → Option ℕ
+hex_value c = cond (nat_lt c 48) None (cond (nat_le c 57) (Some (c - 48)) (cond (nat_lt c 97) None (cond (nat_le c 102) (Some (c - 87)) None)))
 
--- n and the digits at the next `left` places, as one number; Bad where one is no digit of the base
-unfoldable pub number_from : ℕ → ℕ → ℕ → ℕ → List ℕ → Parsed
-number_from base zero at n line = Number n
+-- n and the digits at the next `left` places, as one number; none where one is no digit of the base
+unfoldable pub number_from : ℕ → ℕ → ℕ → ℕ → List ℕ → Option ℕ
+number_from base zero at n line = Some n
 number_from base (suc left) at n line =
-    cond (nat_lt (hex_value (slice_index line at)) base)
-    (number_from base left (at + 1) (n * base + hex_value (slice_index line at)) line)
-    Bad
+    option_and_then (λ d. cond (nat_lt d base) (number_from base left (at + 1) (n * base + d) line) None)
+    (hex_value (slice_index line at))
 
 -- the word that the first eight characters give, of a line with a line feed at its end
-abbrev pub parsed_word : List ℕ → Parsed
-parsed_word line = cond (slice_index line 47 == 10) (number_from 16 8 0 0 line) Bad
+abbrev pub parsed_word : List ℕ → Option ℕ
+parsed_word line = cond (slice_index line 47 == 10) (number_from 16 8 0 0 line) None
 
 -- the word of four bytes, the lowest first
 abbrev pub word_le : ℕ → ℕ → ℕ → ℕ → ℕ
@@ -92,30 +88,30 @@ word_le a b c d = a + b * 2 ^ 8 + c * 2 ^ 16 + d * 2 ^ 24
 abbrev pub agrees : ℕ → ℕ → Bool
 agrees stored made = stored == 46 || stored == made
 
--- the first of the next `left` places that differs; else n and how many are compared: each but a '.'
-unfoldable pub compare_from : ℕ → ℕ → ℕ → List ℕ → List ℕ → Compared
-compare_from zero at n stored made = Same n
+-- the first of the next `left` places that differs, as an error; else n and how many are compared: each but a '.'
+unfoldable pub compare_from : ℕ → ℕ → ℕ → List ℕ → List ℕ → Result ℕ ℕ
+compare_from zero at n stored made = Ok n
 compare_from (suc left) at n stored made =
     cond (agrees (slice_index stored at) (slice_index made at))
     (compare_from left (at + 1) (n + cond (slice_index stored at == 46) 0 1) stored made)
-    (Differs at)
+    (Err at)
 
 -- a stored line against a made one, in all 48 places
-abbrev pub compare_of : List ℕ → List ℕ → Compared
+abbrev pub compare_of : List ℕ → List ℕ → Result ℕ ℕ
 compare_of stored made = compare_from 48 0 0 stored made
 
 -- ---- a line with a stored answer
 
 -- the judgement of a line that begins with the word raw, by its comparison
-abbrev pub of_compared : ℕ → Compared → Judged
-of_compared raw (Same n) = JSame n
-of_compared raw (Differs at) = JDiffers at raw
+abbrev pub of_compared : ℕ → Result ℕ ℕ → Result ℕ Wrong
+of_compared raw (Ok n) = Ok n
+of_compared raw (Err at) = Err (Differs at raw)
 
 -- the judgement of a line, by what it begins with
-abbrev pub of_parsed : List ℕ → Parsed → Judged
-of_parsed line (Number raw) = of_compared raw (compare_of line (word_line_of raw))
-of_parsed line Bad = NoLine
+abbrev pub of_parsed : List ℕ → Option ℕ → Result ℕ Wrong
+of_parsed line (Some raw) = of_compared raw (compare_of line (word_line_of raw))
+of_parsed line None = Err NoLine
 
 -- no line without a word in front and a line feed at its end; else the line against that of its word
-abbrev pub judge_of : List ℕ → Judged
+abbrev pub judge_of : List ℕ → Result ℕ Wrong
 judge_of line = of_parsed line (parsed_word line)

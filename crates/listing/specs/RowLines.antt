@@ -1,19 +1,14 @@
 -- The line of a ROM row, the line in front of the rows of a program, and what is read of both. Assumes nothing.
-use Rattle.std.specs.Prelude.{ℕ, cond, ◌&&◌, List, [], ◌∷◌, ◌++◌, ◌==◌, slice_index}
+use Rattle.std.specs.Prelude.{ℕ, cond, ◌&&◌, List, [], ◌∷◌, ◌++◌, ◌==◌, slice_index, Option, None, Some, Result, Ok, Err}
 use Rattle.expand.specs.Rows.{row_of}
 use Rattle.expand.specs.declared.RomRow.{RomRow}
 use Rattle.expand.specs.declared.VirtualKind.{VirtualKind}
 use Rattle.expand.specs.declared.VirtualKind.TheVariants as kind
 use Rattle.listing.specs.Text.{codes}
 use Rattle.listing.specs.Lines.{last_digits, columns, number_from, parsed_word, compare_of}
-use Rattle.listing.specs.declared.Parsed.{Parsed}
-use Rattle.listing.specs.declared.Parsed.TheVariants.{Number, Bad}
-use Rattle.listing.specs.declared.Compared.{Compared}
-use Rattle.listing.specs.declared.Compared.TheVariants.{Same, Differs}
 use Rattle.listing.specs.declared.rows.Head.{Head}
-use Rattle.listing.specs.declared.rows.Head.TheVariants.{First, Later, NoLine as NoRow}
-use Rattle.listing.specs.declared.rows.Program.{Program}
-use Rattle.listing.specs.declared.rows.Program.TheVariants.{Counts, NoLine as NoProgram}
+use Rattle.listing.specs.declared.rows.Head.TheVariants.{First, Later, NoLine}
+use Rattle.listing.specs.declared.rows.Sizes.{Sizes}
 
 -- ---- the line of a row
 
@@ -40,9 +35,9 @@ row_line_of word distance = line_of_row (row_of word) distance
 -- ---- what a row line says of its instruction
 
 -- the word of the instruction in its first row, which has `+` (43) and `0` (48) from 28 on
-abbrev pub of_word : List ℕ → Parsed → Head
-of_word line (Number raw) = cond (slice_index line 28 == 43 && slice_index line 29 == 48) (First raw) Later
-of_word line Bad = NoRow
+abbrev pub of_word : List ℕ → Option ℕ → Head
+of_word line (Some raw) = cond (slice_index line 28 == 43 && slice_index line 29 == 48) (First raw) Later
+of_word line None = NoLine
 
 -- no row line without a word in front and a line feed at its end
 abbrev pub head_of : List ℕ → Head
@@ -55,16 +50,16 @@ abbrev pub program_shape : List ℕ
 program_shape = codes "program: .... words, .... rows                 " ++ (10 ∷ [])
 
 -- the counts of words and of rows
-abbrev pub of_counts : Parsed → Parsed → Program
-of_counts (Number words) (Number rows) = Counts words rows
-of_counts (Number words) Bad = NoProgram
-of_counts Bad rows = NoProgram
+abbrev pub of_counts : Option ℕ → Option ℕ → Option Sizes
+of_counts (Some words) (Some rows) = Some (record { words = words; rows = rows })
+of_counts (Some words) None = None
+of_counts None rows = None
 
 -- the counts of a line, by its comparison with the shape: four decimal digits each
-abbrev pub of_shape : List ℕ → Compared → Program
-of_shape line (Same n) = of_counts (number_from 10 4 9 0 line) (number_from 10 4 21 0 line)
-of_shape line (Differs at) = NoProgram
+abbrev pub of_shape : List ℕ → Result ℕ ℕ → Option Sizes
+of_shape line (Ok n) = of_counts (number_from 10 4 9 0 line) (number_from 10 4 21 0 line)
+of_shape line (Err at) = None
 
 -- the counts of a line of that shape
-abbrev pub program_counts : List ℕ → Program
+abbrev pub program_counts : List ℕ → Option Sizes
 program_counts line = of_shape line (compare_of program_shape line)

@@ -11,85 +11,27 @@
 
 mod rows;
 
-ghost use Rattle.std.specs.Prelude.{◌≡◌, ◌+◌, ◌%◌, ◌^◌, ◌<◌, ◌≤◌};
+ghost use Rattle.std.specs.Prelude.{◌≡◌, ◌+◌, ◌^◌, ◌<◌, ◌≤◌, IfSome, slice_index};
 ghost use Rattle.listing.specs.Lines.{digit, name_of, word_line_of, hex_value, number_from, parsed_word, word_le, compare_of, judge_of};
 ghost use Rattle.listing.specs.Steps.{put_digits, put_fields, blank};
 
 use decode::Opcode;
-pub use rows::{Head, Program, compare_row, head_of, program_counts, row_line_of};
+pub use rows::{Head, Sizes, compare_row, head_of, program_counts, row_line_of};
+use std::fmt;
 
-// What the digits at some places of a line give.
+// Why a line with a stored answer is wrong: the place where it differs and the word of the line, or it
+// is no listing line.
 #[derive(Clone, Copy)]
-enum Parsed {
-    Number(u32),
-    Bad,
-}
-
-// How many characters were compared, where none differs; else the first place that differs.
-#[derive(Clone, Copy)]
-pub enum Compared {
-    Same(usize),
-    Differs(usize),
-}
-
-// What a line with a stored answer comes to. Where it differs: the place, and the word of the line.
-#[derive(Clone, Copy)]
-pub enum Judged {
+pub enum Wrong {
     NoLine,
-    Same(usize),
-    Differs(usize, u32),
+    Differs { at: usize, raw: u32 },
 }
 
-// The lines of a list, the characters compared in those that are the same, and the wrong lines.
-#[derive(Clone, Copy)]
-pub struct Tally {
-    pub lines: u64,
-    pub characters: u64,
-    pub wrong: u64,
-}
-
-// The numbers wrap, at a size that no list has.
-impl Tally {
-    pub fn none() -> Tally
-        ensures { (result.lines ≡ 0) × (result.characters ≡ 0) × (result.wrong ≡ 0) }
-    {
-        Tally {
-            lines: 0,
-            characters: 0,
-            wrong: 0,
-        }
-    }
-
-    // One line more, the same in `n` characters.
-    pub fn with_same(self, n: usize) -> Tally
-        ensures { (result.lines ≡ (self.lines + 1) % 2 ^ 64) × (result.characters ≡ (self.characters + n) % 2 ^ 64) × (result.wrong ≡ self.wrong) }
-    {
-        Tally {
-            lines: std::num::wrapping_add_u64(self.lines, 1),
-            characters: std::num::wrapping_add_u64(self.characters, n as u64),
-            wrong: self.wrong,
-        }
-    }
-
-    // So many lines more, that are not compared.
-    pub fn with_lines(self, n: usize) -> Tally
-        ensures { (result.lines ≡ (self.lines + n) % 2 ^ 64) × (result.characters ≡ self.characters) × (result.wrong ≡ self.wrong) }
-    {
-        Tally {
-            lines: std::num::wrapping_add_u64(self.lines, n as u64),
-            characters: self.characters,
-            wrong: self.wrong,
-        }
-    }
-
-    // One line more, a wrong one.
-    pub fn with_wrong(self) -> Tally
-        ensures { (result.lines ≡ (self.lines + 1) % 2 ^ 64) × (result.characters ≡ self.characters) × (result.wrong ≡ (self.wrong + 1) % 2 ^ 64) }
-    {
-        Tally {
-            lines: std::num::wrapping_add_u64(self.lines, 1),
-            characters: self.characters,
-            wrong: std::num::wrapping_add_u64(self.wrong, 1),
+impl fmt::Display for Wrong {
+    fn fmt<W: fmt::Write>(&self, f: &mut fmt::Formatter<W>) -> fmt::Result {
+        match self {
+            Wrong::NoLine => write!(f, "not a listing line"),
+            Wrong::Differs { at, .. } => write!(f, "differs at column {at}"),
         }
     }
 }
@@ -102,15 +44,14 @@ fn digit_char(d: u64) -> u8
     if d < 10 { 48 + d as u8 } else { 87 + d as u8 }
 }
 
-// Puts the last `n` digits of `v` at the places from `at` on, the lowest digit first.
+// Puts the last `n` digits of `v` at the places from `at` on, the lowest digit first. Not by `write!`,
+// since no contract of std says which bytes that leaves in a `&mut [u8]`.
 fn put_digits(line: &mut [u8; 48], at: usize, n: usize, base: u64, v: u64)
     requires { (at + n ≤ 48) × (0 < base) × (base ≤ 16) }
     ensures { line.new ≡ put_digits line.old at n base v }
 {
-    let mut i = n;
     let mut rest = v;
-    while i > 0 {
-        i -= 1;
+    for i in (0..n).rev() {
         line[at + i] = digit_char(rest % base);
         rest /= base;
     }
@@ -136,26 +77,39 @@ fn put_fields(
     put_digits(line, 31, 16, 16, imm);
 }
 
-// The line of a class before its numbers are put in.
-fn blank_of(op: Opcode) -> [u8; 48]
-    ensures { result ≡ blank (name_of op) 32 }
+// A line before its numbers are put in: a text of seven characters, and a mark at 28.
+#[tactic(auto, using(crate::proofs::Laws::blank_made))]
+fn blank(seven: &[u8; 7], mark: u8) -> [u8; 48]
+    ensures { result ≡ blank seven.now mark }
+{
+    let mut line = [b' '; 48];
+    line[9..16].copy_from_slice(seven);
+    line[28] = mark;
+    line[47] = b'\n';
+    line
+}
+
+// The name of a class, in seven characters. Not by a derived `Debug`: no contract says what that prints.
+#[tactic(auto, unfolding(crate::specs::Lines::name_of))]
+fn name_of(op: Opcode) -> [u8; 7]
+    ensures { result ≡ name_of op }
 {
     match op {
-        Opcode::Lui => *b"         Lui                                   \n",
-        Opcode::Auipc => *b"         Auipc                                 \n",
-        Opcode::Jal => *b"         Jal                                   \n",
-        Opcode::Jalr => *b"         Jalr                                  \n",
-        Opcode::Branch => *b"         Branch                                \n",
-        Opcode::Load => *b"         Load                                  \n",
-        Opcode::Store => *b"         Store                                 \n",
-        Opcode::OpImm => *b"         OpImm                                 \n",
-        Opcode::Op => *b"         Op                                    \n",
-        Opcode::OpImm32 => *b"         OpImm32                               \n",
-        Opcode::Op32 => *b"         Op32                                  \n",
-        Opcode::Fence => *b"         Fence                                 \n",
-        Opcode::Ecall => *b"         Ecall                                 \n",
-        Opcode::Ebreak => *b"         Ebreak                                \n",
-        Opcode::Invalid => *b"         Invalid                               \n",
+        Opcode::Lui => *b"Lui    ",
+        Opcode::Auipc => *b"Auipc  ",
+        Opcode::Jal => *b"Jal    ",
+        Opcode::Jalr => *b"Jalr   ",
+        Opcode::Branch => *b"Branch ",
+        Opcode::Load => *b"Load   ",
+        Opcode::Store => *b"Store  ",
+        Opcode::OpImm => *b"OpImm  ",
+        Opcode::Op => *b"Op     ",
+        Opcode::OpImm32 => *b"OpImm32",
+        Opcode::Op32 => *b"Op32   ",
+        Opcode::Fence => *b"Fence  ",
+        Opcode::Ecall => *b"Ecall  ",
+        Opcode::Ebreak => *b"Ebreak ",
+        Opcode::Invalid => *b"Invalid",
     }
 }
 
@@ -165,93 +119,80 @@ pub fn word_line_of(raw: u32) -> [u8; 48]
 {
     let d = decode::decode(raw);
     let op = d.opcode;
-    let mut line = blank_of(op);
+    let mut line = blank(&name_of(op), b' ');
     put_fields(&mut line, d.raw, d.rd, d.rs1, d.rs2, d.funct3, d.imm);
     put_digits(&mut line, 28, 2, 16, d.funct7 as u64);
     line
 }
 
-// The value of a lower-case hexadecimal digit, and 16 for any other character.
-pub fn hex_value(b: u8) -> u32
+// The value of a lower-case hexadecimal digit.
+#[tactic(auto, unfolding(crate::specs::Lines::hex_value))]
+pub fn hex_value(b: u8) -> Option<u32>
     ensures value { result ≡ hex_value b }
-    ensures bound { result ≤ 16 }
+    ensures bound { IfSome result (λ d. d < 16) }
 {
-    if b < b'0' {
-        return 16;
+    match b {
+        b'0'..=b'9' => Some(b as u32 - 48),
+        b'a'..=b'f' => Some(b as u32 - 87),
+        _ => None,
     }
-    if b <= b'9' {
-        return b as u32 - 48;
-    }
-    if b < b'a' {
-        return 16;
-    }
-    if b <= b'f' { b as u32 - 87 } else { 16 }
 }
 
 // The number that `n` digits from `at` on give.
-fn number_at(line: &[u8; 48], at: usize, n: usize, base: u32) -> Parsed
+fn number_at(line: &[u8; 48], at: usize, n: usize, base: u32) -> Option<u32>
     requires { (at + n ≤ 48) × (base ≤ 16) × (base ^ n ≤ 2 ^ 32) }
     ensures { result ≡ number_from base n at 0 line.now }
 {
     let mut number: u32 = 0;
-    let mut i = 0;
-    while i < n {
-        let d = hex_value(line[at + i]);
-        if base <= d {
-            return Parsed::Bad;
+    for i in 0..n {
+        let digit = hex_value(line[at + i])?;
+        if base <= digit {
+            return None;
         }
-        number = number * base + d;
-        i += 1;
+        number = number * base + digit;
     }
-    Parsed::Number(number)
+    Some(number)
 }
 
 // The word that a line begins with; a line has a line feed at its end.
-fn parsed_word(line: &[u8; 48]) -> Parsed
+fn parsed_word(line: &[u8; 48]) -> Option<u32>
     ensures { result ≡ parsed_word line.now }
 {
     if line[47] != b'\n' {
-        return Parsed::Bad;
+        return None;
     }
     number_at(line, 0, 8, 16)
 }
 
 // The word of four bytes, the lowest first.
-pub fn word_le(a: u8, b: u8, c: u8, d: u8) -> u32
-    ensures { result ≡ word_le a b c d }
+pub fn word_le(bytes: [u8; 4]) -> u32
+    ensures { result ≡ word_le (slice_index bytes 0) (slice_index bytes 1) (slice_index bytes 2) (slice_index bytes 3) }
 {
-    (a as u32) + (b as u32) * 256 + (c as u32) * 65536 + (d as u32) * 16777216
+    u32::from_le_bytes(bytes)
 }
 
-// A stored line against a made one. A '.' that is stored stands for any character.
-fn compare(stored: &[u8; 48], made: &[u8; 48]) -> Compared
+// A stored line against a made one: how many characters are compared, or the first place that differs.
+// A '.' that is stored stands for any character.
+fn compare(stored: &[u8; 48], made: &[u8; 48]) -> Result<usize, usize>
     ensures { result ≡ compare_of stored.now made.now }
 {
     let mut n = 0;
-    let mut i = 0;
-    while i < 48 {
-        let s = stored[i];
-        if s != b'.' {
-            if s != made[i] {
-                return Compared::Differs(i);
+    for i in 0..48 {
+        if stored[i] != b'.' {
+            if stored[i] != made[i] {
+                return Err(i);
             }
             n += 1;
         }
-        i += 1;
     }
-    Compared::Same(n)
+    Ok(n)
 }
 
 // A stored line against the line of the word that it begins with.
-pub fn judge(line: &[u8; 48]) -> Judged
+pub fn judge(line: &[u8; 48]) -> Result<usize, Wrong>
     ensures { result ≡ judge_of line.now }
 {
-    let Parsed::Number(raw) = parsed_word(line) else {
-        return Judged::NoLine;
-    };
+    let raw = parsed_word(line).ok_or(Wrong::NoLine)?;
     let made = word_line_of(raw);
-    match compare(line, &made) {
-        Compared::Same(n) => Judged::Same(n),
-        Compared::Differs(at) => Judged::Differs(at, raw),
-    }
+    compare(line, &made).map_err(|at| Wrong::Differs { at, raw })
 }

@@ -8,12 +8,12 @@
 ghost use Rattle.std.specs.Prelude.{◌≡◌};
 ghost use Rattle.listing.specs.RowLines.{kind_name, row_line_of, head_of, program_counts};
 ghost use Rattle.listing.specs.Lines.{compare_of};
-ghost use Rattle.listing.specs.Steps.{blank};
 
-use crate::{Compared, Parsed, compare, number_at, parsed_word, put_digits, put_fields};
+use crate::{blank, compare, digit_char, number_at, parsed_word, put_digits, put_fields};
 use expand::VirtualKind;
 
-// What a row line says of its instruction: the word of it, where the row is its first.
+// What a row line says of its instruction: the word of it, where the row is its first. An enum of
+// three, since an `Option` in an `Option` would name none of the cases.
 #[derive(Clone, Copy)]
 pub enum Head {
     First(u32),
@@ -23,33 +23,29 @@ pub enum Head {
 
 // The counts of words and of rows that a program line gives.
 #[derive(Clone, Copy)]
-pub enum Program {
-    Counts(u32, u32),
-    NoLine,
+pub struct Sizes {
+    pub words: u32,
+    pub rows: u32,
 }
 
-// The line of a stage of a shift before its numbers are put in.
-fn blank_stage(stage: usize) -> [u8; 48]
-    ensures { result ≡ blank (kind_name (VirtualKind.ShiftStage stage)) 43 }
-{
-    let mut line = *b"         Shift              +                  \n";
-    put_digits(&mut line, 15, 1, 10, stage as u64);
-    line
-}
-
-// The line of a kind before its numbers are put in.
-fn blank_row(kind: VirtualKind) -> [u8; 48]
-    ensures { result ≡ blank (kind_name kind) 43 }
+// The name of a kind, in seven characters; that of a stage ends in its last decimal digit.
+#[tactic(auto, unfolding(crate::specs::RowLines::kind_name))]
+fn kind_name(kind: VirtualKind) -> [u8; 7]
+    ensures { result ≡ kind_name kind }
 {
     match kind {
-        VirtualKind::Alu => *b"         Alu                +                  \n",
-        VirtualKind::ShiftStage { stage } => blank_stage(stage),
-        VirtualKind::Load => *b"         Load               +                  \n",
-        VirtualKind::Store => *b"         Store              +                  \n",
-        VirtualKind::Branch => *b"         Branch             +                  \n",
-        VirtualKind::Upper => *b"         Upper              +                  \n",
-        VirtualKind::Jump => *b"         Jump               +                  \n",
-        VirtualKind::System => *b"         System             +                  \n",
+        VirtualKind::Alu => *b"Alu    ",
+        VirtualKind::ShiftStage { stage } => {
+            let mut name = *b"Shift  ";
+            name[6] = digit_char(stage as u64 % 10);
+            name
+        }
+        VirtualKind::Load => *b"Load   ",
+        VirtualKind::Store => *b"Store  ",
+        VirtualKind::Branch => *b"Branch ",
+        VirtualKind::Upper => *b"Upper  ",
+        VirtualKind::Jump => *b"Jump   ",
+        VirtualKind::System => *b"System ",
     }
 }
 
@@ -59,14 +55,14 @@ pub fn row_line_of(word: u64, distance: usize) -> [u8; 48]
 {
     let r = expand::rom_row(word);
     let kind = r.kind;
-    let mut line = blank_row(kind);
+    let mut line = blank(&kind_name(kind), b'+');
     put_fields(&mut line, r.raw, r.rd, r.rs1, r.rs2, r.funct3, r.imm);
     put_digits(&mut line, 29, 1, 10, distance as u64);
     line
 }
 
 // A stored line against the line of a row word.
-pub fn compare_row(line: &[u8; 48], word: u64, distance: usize) -> Compared
+pub fn compare_row(line: &[u8; 48], word: u64, distance: usize) -> Result<usize, usize>
     ensures { result ≡ compare_of line.now (row_line_of word distance) }
 {
     let made = row_line_of(word, distance);
@@ -77,31 +73,20 @@ pub fn compare_row(line: &[u8; 48], word: u64, distance: usize) -> Compared
 pub fn head_of(line: &[u8; 48]) -> Head
     ensures { result ≡ head_of line.now }
 {
-    let Parsed::Number(raw) = parsed_word(line) else {
-        return Head::NoLine;
-    };
-    if line[28] != b'+' {
-        return Head::Later;
+    match parsed_word(line) {
+        Some(raw) if line[28] == b'+' && line[29] == b'0' => Head::First(raw),
+        Some(_) => Head::Later,
+        None => Head::NoLine,
     }
-    if line[29] != b'0' {
-        return Head::Later;
-    }
-    Head::First(raw)
 }
 
 // A program line has these characters, and a decimal digit for each dot.
-pub fn program_counts(line: &[u8; 48]) -> Program
+pub fn program_counts(line: &[u8; 48]) -> Option<Sizes>
     ensures { result ≡ program_counts line.now }
 {
-    let shape = *b"program: .... words, .... rows                 \n";
-    let Compared::Same(_) = compare(&shape, line) else {
-        return Program::NoLine;
-    };
-    let Parsed::Number(words) = number_at(line, 9, 4, 10) else {
-        return Program::NoLine;
-    };
-    let Parsed::Number(rows) = number_at(line, 21, 4, 10) else {
-        return Program::NoLine;
-    };
-    Program::Counts(words, rows)
+    let shape = b"program: .... words, .... rows                 \n";
+    compare(shape, line).ok()?;
+    let words = number_at(line, 9, 4, 10)?;
+    let rows = number_at(line, 21, 4, 10)?;
+    Some(Sizes { words, rows })
 }

@@ -4,8 +4,4 @@ use Rattle.listing.specs.Lines.{compare_from, compare_of}
 use Rattle.listing.proofs.compare.Given as goal
 
 abbrev pub invariant-loop-i : goal.invariant-loop-i
-invariant-loop-i l =
-    (l.i ≤ 48) × (l.n ≤ l.i) × (compare_from (48 - l.i) l.i l.n l.stored l.made ≡ compare_of l.stored l.made)
-
-abbrev pub decreases-loop-i : goal.decreases-loop-i
-decreases-loop-i l = 48 - l.i
+invariant-loop-i l = (l.n ≤ l.i) × (compare_from (48 - l.i) l.i l.n l.stored l.made ≡ compare_of l.stored l.made)
