@@ -5,7 +5,7 @@ ghost use Rattle.interp.specs.Cycle.{sub_flag, alu_flags, shift_out, alu_arm, st
 ghost use Rattle.interp.specs.Code.{InRange};
 
 use crate::effect::{
-    Access, Effect, Scratch, Write, keeps_cell, no_access, plain, showing, writes_to,
+    Access, Effect, Write, keeps_cell, no_access, plain, showing, writes_to,
 };
 use crate::{Cursor, CycleRecord, values};
 use expand::{MicroPc, RomRow};
@@ -91,7 +91,7 @@ fn stage_effect(
         write: keeps_cell(regs),
         access: no_access(),
         shown: showing(a, b, v, 0, 0),
-        scratch: Scratch::Holds(v),
+        scratch: Some(v),
         next_pc: next,
         halts: false,
     }
@@ -303,7 +303,7 @@ pub(crate) fn system_arm(row: RomRow, mp: MicroPc, regs: &[u64; Cursor::REGS]) -
         write: write,
         access: no_access(),
         shown: shown,
-        scratch: Scratch::Kept,
+        scratch: None,
         next_pc: mp,
         halts: true,
     }

@@ -8,7 +8,7 @@ use crate::arms::{
     alu_arm, branch_arm, jump_arm, load_arm, padding_arm, stage_arm, store_arm, system_arm,
     upper_arm,
 };
-use crate::effect::{Effect, Scratch};
+use crate::effect::Effect;
 use crate::{Cursor, CycleRecord};
 use expand::{MicroPc, RomRow, VirtualKind};
 
@@ -105,15 +105,13 @@ fn accumulator(regs: &[u64; Cursor::REGS]) -> u64
     regs[0]
 }
 
-// Leaves the accumulator there.
-fn hold(scratch: Scratch, regs: &mut [u64; Cursor::REGS])
+// Leaves a new accumulator there.
+#[tactic(auto, unfolding(crate::specs::Cycle::scratched))]
+fn hold(scratch: Option<u64>, regs: &mut [u64; Cursor::REGS])
     ensures { regs.new ≡ scratched scratch regs.old }
 {
-    match scratch {
-        Scratch::Kept => {}
-        Scratch::Holds(v) => {
-            regs[0] = v;
-        }
+    if let Some(v) = scratch {
+        regs[0] = v;
     }
 }
 
