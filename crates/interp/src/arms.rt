@@ -4,9 +4,7 @@ ghost use Rattle.interp.specs.Values.{branch_target};
 ghost use Rattle.interp.specs.Cycle.{sub_flag, alu_flags, shift_out, alu_arm, stage_effect, stage_arm, load_flag, load_flags, load_arm, store_arm, branch_flags, branch_arm, upper_arm, jump_target, jump_arm, system_arm, padding_arm};
 ghost use Rattle.interp.specs.Code.{InRange};
 
-use crate::effect::{
-    Access, Effect, Write, keeps_cell, no_access, plain, showing, writes_to,
-};
+use crate::effect::{Access, Effect, Write, keeps_cell, no_access, plain, showing, writes_to};
 use crate::{Cursor, CycleRecord, values};
 use expand::{MicroPc, RomRow};
 

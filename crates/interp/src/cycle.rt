@@ -10,9 +10,10 @@ use crate::arms::{
 };
 use crate::effect::Effect;
 use crate::{Cursor, CycleRecord};
-use expand::{MicroPc, RomRow, VirtualKind};
+use expand::{MicroPc, RomRow, VirtualKind, Word};
 
-// The numbers of a cursor. The loops take them by value and the arrays lent, so that no cycle copies a cursor.
+// A cursor in two halves: the loops take its numbers by value and its arrays lent, so that no cycle copies a cursor.
+// The numbers.
 #[derive(Clone, Copy)]
 pub(crate) struct Core {
     pub(crate) micro_pc: MicroPc,
@@ -22,23 +23,68 @@ pub(crate) struct Core {
     pub(crate) next_fetch: MicroPc,
 }
 
+// The arrays.
+#[derive(Clone, Copy)]
+pub(crate) struct Memory {
+    pub(crate) regs: [Word; Cursor::REGS],
+    pub(crate) ram: [Word; Cursor::RAM_WORDS],
+}
+
+impl Memory {
+    // The accumulator of a shift lies in cell 0.
+    fn accumulator(&self) -> u64
+        ensures { result ≡ accumulator self.now.regs }
+    {
+        self.regs[0]
+    }
+
+    // Leaves a new accumulator there.
+    #[tactic(auto, unfolding(crate::specs::Cycle::scratched))]
+    fn hold(&mut self, scratch: Option<u64>)
+        ensures regs { self.new.regs ≡ scratched scratch self.old.regs }
+        ensures ram { self.new.ram ≡ self.old.ram }
+    {
+        if let Some(v) = scratch {
+            self.regs[0] = v;
+        }
+    }
+
+    // Writes the cell of an effect.
+    #[tactic(auto, unfolding(crate::specs::Cycle::regs_after))]
+    fn write(&mut self, e: Effect)
+        requires { Sound e }
+        ensures regs { self.new.regs ≡ regs_after e self.old.regs }
+        ensures ram { self.new.ram ≡ self.old.ram }
+    {
+        let rd = e.write.rd;
+        self.regs[rd] = e.write.rd_val;
+    }
+
+    // Stores ram_new, if is_store is set.
+    #[tactic(auto, unfolding(crate::specs::Cycle::ram_after))]
+    fn store(&mut self, e: Effect)
+        requires { Sound e }
+        ensures regs { self.new.regs ≡ self.old.regs }
+        ensures ram { self.new.ram ≡ ram_after e self.old.ram }
+    {
+        if e.shown.flags / CycleRecord::IS_STORE % 2 == 1 {
+            let addr = e.access.ram_addr;
+            self.ram[addr] = e.access.ram_new;
+        }
+    }
+}
+
 // The record of an effect at row `at`.
-fn record_of(
-    row: RomRow,
-    at: MicroPc,
-    e: Effect,
-    regs: &[u64; Cursor::REGS],
-    ram: &[u64; Cursor::RAM_WORDS],
-) -> CycleRecord
+fn record_of(row: RomRow, at: MicroPc, e: Effect, memory: &Memory) -> CycleRecord
     requires { InRange row × Sound e }
-    ensures { result ≡ record_of row at e regs.now ram.now }
+    ensures { result ≡ record_of row at e memory.now.regs memory.now.ram }
 {
     let rs1 = row.rs1;
     let rs2 = row.rs2;
     let addr = e.access.ram_addr;
-    let a = regs[rs1];
-    let b = regs[rs2];
-    let word = ram[addr];
+    let a = memory.regs[rs1];
+    let b = memory.regs[rs2];
+    let word = memory.ram[addr];
     let next = e.next_pc;
     CycleRecord {
         micro_pc: at,
@@ -98,52 +144,16 @@ fn put(r: CycleRecord, out: &mut [u64])
     out[16] = last;
 }
 
-// The accumulator of a shift lies in cell 0.
-fn accumulator(regs: &[u64; Cursor::REGS]) -> u64
-    ensures { result ≡ accumulator regs.now }
-{
-    regs[0]
-}
-
-// Leaves a new accumulator there.
-#[tactic(auto, unfolding(crate::specs::Cycle::scratched))]
-fn hold(scratch: Option<u64>, regs: &mut [u64; Cursor::REGS])
-    ensures { regs.new ≡ scratched scratch regs.old }
-{
-    if let Some(v) = scratch {
-        regs[0] = v;
-    }
-}
-
-// Stores ram_new, if is_store is set.
-fn store(e: Effect, ram: &mut [u64; Cursor::RAM_WORDS])
-    requires { Sound e }
-    ensures { ram.new ≡ ram_after e ram.old }
-{
-    if e.shown.flags / CycleRecord::IS_STORE % 2 == 1 {
-        let addr = e.access.ram_addr;
-        ram[addr] = e.access.ram_new;
-    }
-}
-
 // Writes the record of an effect at row `at`, and then does what it says to registers and RAM.
-fn put_effect(
-    row: RomRow,
-    at: MicroPc,
-    e: Effect,
-    regs: &mut [u64; Cursor::REGS],
-    ram: &mut [u64; Cursor::RAM_WORDS],
-    out: &mut [u64],
-)
+fn put_effect(row: RomRow, at: MicroPc, e: Effect, memory: &mut Memory, out: &mut [u64])
     requires { InRange row × (Sound e × (length out.old ≡ 17)) }
-    ensures regs { regs.new ≡ regs_after e regs.old }
-    ensures ram { ram.new ≡ ram_after e ram.old }
-    ensures shown { out.new ≡ words (record_of row at e regs.old ram.old) }
+    ensures regs { memory.new.regs ≡ regs_after e memory.old.regs }
+    ensures ram { memory.new.ram ≡ ram_after e memory.old.ram }
+    ensures shown { out.new ≡ words (record_of row at e memory.old.regs memory.old.ram) }
 {
-    let record = record_of(row, at, e, regs, ram);
-    let rd = e.write.rd;
-    regs[rd] = e.write.rd_val;
-    store(e, ram);
+    let record = record_of(row, at, e, memory);
+    memory.write(e);
+    memory.store(e);
     put(record, out);
 }
 
@@ -154,21 +164,13 @@ fn output_after(halts: bool, shown: u64, output: u64) -> u64
 }
 
 // `commit`: does what the effect of a live cycle says, and gives the numbers after it.
-fn commit(
-    row: RomRow,
-    core: Core,
-    e: Effect,
-    regs: &mut [u64; Cursor::REGS],
-    ram: &mut [u64; Cursor::RAM_WORDS],
-    out: &mut [u64],
-) -> Core
+fn commit(row: RomRow, core: Core, e: Effect, memory: &mut Memory, out: &mut [u64]) -> Core
     requires { InRange row × (Sound e × ((core.cycles < 2 ^ 62) × (length out.old ≡ 17))) }
-    ensures cursor { whole result regs.new ram.new ≡ (commit row (whole core regs.old ram.old) e).after }
-    ensures shown { out.new ≡ words (commit row (whole core regs.old ram.old) e).shown }
+    ensures cursor { whole result memory.new ≡ (commit row (whole core memory.old) e).after }
+    ensures shown { out.new ≡ words (commit row (whole core memory.old) e).shown }
 {
-    put_effect(row, core.micro_pc, e, regs, ram, out);
-    let scratch = e.scratch;
-    hold(scratch, regs);
+    put_effect(row, core.micro_pc, e, memory, out);
+    memory.hold(e.scratch);
     let next = e.next_pc;
     Core {
         micro_pc: next,
@@ -198,47 +200,58 @@ pub(crate) fn live_cycle(
     row: RomRow,
     count: usize,
     core: Core,
-    regs: &mut [u64; Cursor::REGS],
-    ram: &mut [u64; Cursor::RAM_WORDS],
+    memory: &mut Memory,
     out: &mut [u64],
 ) -> Core
     requires { InRange row × ((core.cycles < 2 ^ 62) × ((core.micro_pc.0 < count) × (length out.old ≡ 17))) }
-    ensures cursor { whole result regs.new ram.new ≡ (step_at row count (whole core regs.old ram.old)).after }
-    ensures shown { out.new ≡ words (step_at row count (whole core regs.old ram.old)).shown }
+    ensures cursor { whole result memory.new ≡ (step_at row count (whole core memory.old)).after }
+    ensures shown { out.new ≡ words (step_at row count (whole core memory.old)).shown }
 {
     let mp = core.micro_pc;
     let next = next_row(mp, count);
     let kind = row.kind;
     match kind {
-        VirtualKind::Alu => commit(row, core, alu_arm(row, next, regs), regs, ram, out),
+        VirtualKind::Alu => {
+            let e = alu_arm(row, next, &memory.regs);
+            commit(row, core, e, memory, out)
+        }
         VirtualKind::ShiftStage { stage } => {
-            let e = stage_arm(stage, row, next, accumulator(regs), regs);
-            commit(row, core, e, regs, ram, out)
+            let e = stage_arm(stage, row, next, memory.accumulator(), &memory.regs);
+            commit(row, core, e, memory, out)
         }
-        VirtualKind::Load => commit(row, core, load_arm(row, next, regs, ram), regs, ram, out),
-        VirtualKind::Store => commit(row, core, store_arm(row, next, regs, ram), regs, ram, out),
+        VirtualKind::Load => {
+            let e = load_arm(row, next, &memory.regs, &memory.ram);
+            commit(row, core, e, memory, out)
+        }
+        VirtualKind::Store => {
+            let e = store_arm(row, next, &memory.regs, &memory.ram);
+            commit(row, core, e, memory, out)
+        }
         VirtualKind::Branch => {
-            let e = branch_arm(row, mp, count, next, regs);
-            commit(row, core, e, regs, ram, out)
+            let e = branch_arm(row, mp, count, next, &memory.regs);
+            commit(row, core, e, memory, out)
         }
-        VirtualKind::Upper => commit(row, core, upper_arm(row, mp, next, regs), regs, ram, out),
-        VirtualKind::Jump => commit(row, core, jump_arm(row, mp, count, regs), regs, ram, out),
-        VirtualKind::System => commit(row, core, system_arm(row, mp, regs), regs, ram, out),
+        VirtualKind::Upper => {
+            let e = upper_arm(row, mp, next, &memory.regs);
+            commit(row, core, e, memory, out)
+        }
+        VirtualKind::Jump => {
+            let e = jump_arm(row, mp, count, &memory.regs);
+            commit(row, core, e, memory, out)
+        }
+        VirtualKind::System => {
+            let e = system_arm(row, mp, &memory.regs);
+            commit(row, core, e, memory, out)
+        }
     }
 }
 
 // One padding cycle, `frozen_record`, of the row at next_fetch. The numbers of the cursor stay.
-pub(crate) fn padding_cycle(
-    row: RomRow,
-    core: Core,
-    regs: &mut [u64; Cursor::REGS],
-    ram: &mut [u64; Cursor::RAM_WORDS],
-    out: &mut [u64],
-)
+pub(crate) fn padding_cycle(row: RomRow, core: Core, memory: &mut Memory, out: &mut [u64])
     requires { InRange row × (length out.old ≡ 17) }
-    ensures cursor { whole core regs.new ram.new ≡ (frozen_at row (whole core regs.old ram.old)).after }
-    ensures shown { out.new ≡ words (frozen_at row (whole core regs.old ram.old)).shown }
+    ensures cursor { whole core memory.new ≡ (frozen_at row (whole core memory.old)).after }
+    ensures shown { out.new ≡ words (frozen_at row (whole core memory.old)).shown }
 {
-    let e = padding_arm(row, core.next_fetch, core.output, regs);
-    put_effect(row, core.next_fetch, e, regs, ram, out);
+    let e = padding_arm(row, core.next_fetch, core.output, &memory.regs);
+    put_effect(row, core.next_fetch, e, memory, out);
 }

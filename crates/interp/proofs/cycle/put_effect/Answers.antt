@@ -1,7 +1,7 @@
 -- `interp::put_effect` meets its contract. Assumes nothing.
 use Rattle.std.proofs.Common.{refl, ap, ◌∙◌}
 use Rattle.interp.specs.Machine.{words}
-use Rattle.interp.specs.Cycle.{record_of, regs_after}
+use Rattle.interp.specs.Cycle.{record_of, ram_after}
 use Rattle.interp.proofs.cycle.put_effect.Goals as goal
 
 pub put-requires : goal.put-requires
@@ -9,9 +9,8 @@ unfolding record_of
 put-requires c = let start = c in (start.requires.1.1, simp c.record_of-record.ensures start.requires.1.0.flags)
 
 pub returns : goal.returns
-unfolding regs_after
 returns c = record {
-  regs = refl;
-  ram = c.store.ensures;
+  regs = c.store.ensures.regs ∙ c.write.ensures.regs;
+  ram = c.store.ensures.ram ∙ ap (ram_after c.args.e) c.write.ensures.ram;
   shown = c.put.ensures ∙ ap words c.record_of-record.ensures;
 }

@@ -24,7 +24,7 @@ loop-core-init c =
     let core = c.afresh-core in
     let e = core.ensures in (
       record { pc = rw e c.requires.pc; fetch = rw e c.requires.fetch; few = λ h. omega (arith, c.requires.few_cycles h, ap (λ (k : Core). k.cycles) e); counted = rw (sub-zero c.args.limit) (sym (zero-add _)) },
-      record { state = refl; log = refl; long = refl; upto = omega arith; room = c.requires.fits; small = c.well_formed.1.1.1.1.1.0.1 },
+      record { state = refl; log = refl; long = refl; upto = omega arith; room = c.requires.fits; small = c.well_formed.1.1.1.1.0.1 },
       c.fetch_row-at.ensures ∙ ap (λ (b : Bool). cond b core.result.next_fetch core.result.micro_pc) c.is_over-over.ensures,
     )
 
@@ -54,8 +54,8 @@ returns-then-is_over c =
     let at-loop = c.loop-core in
     let rows = c.args.rows.now in
     let over = sym c.is_over.ensures ∙ c.if-is_over.true in
-    let none = count_over rows at-loop.i c.args.limit (whole at-loop.core at-loop.regs at-loop.ram) over in
-    let c₀ = whole c.afresh-core.result c.args.regs.now c.args.ram.now in
+    let none = count_over rows at-loop.i c.args.limit (whole at-loop.core at-loop.memory) over in
+    let c₀ = whole c.afresh-core.result c.args.memory.now in
     let taken : at-loop.i ≡ live_count_of rows c.args.limit c₀ = omega (arith, at-loop.invariant.0.counted, none) in
     let here : at-loop.at ≡ at-loop.core.next_fetch = at-loop.invariant.2 ∙ rw over refl in
     rw (sym c.afresh-core.ensures) record {
@@ -94,7 +94,7 @@ unfolding live
 loop-core-preserved c =
     let at-loop = c.loop-core in
     let rows = c.args.rows.now in
-    let now-at = whole at-loop.core at-loop.regs at-loop.ram in
+    let now-at = whole at-loop.core at-loop.memory in
     let run = running (goal.at.loop-core-preserved c).Else-is_over in
     let over = sym c.is_over.ensures ∙ c.if-is_over.false in
     let here : at-loop.at ≡ at-loop.core.micro_pc = at-loop.invariant.2 ∙ rw over refl in

@@ -9,7 +9,7 @@ use Rattle.interp.proofs.run.run_padding.Goals as goal
 
 pub loop-i-init : goal.loop-i-init
 unfolding end recorded flat
-loop-i-init c = (c.requires.0, record { state = refl; log = refl; long = refl; upto = omega arith; room = c.requires.1; small = c.well_formed.1.1.1.1.1.0.1 })
+loop-i-init c = (c.requires.0, record { state = refl; log = refl; long = refl; upto = omega arith; room = c.requires.1; small = c.well_formed.1.1.1.1.0.1 })
 
 pub overflow_mul-base : goal.overflow_mul-base
 overflow_mul-base c = omega arith
@@ -38,7 +38,7 @@ loop-i-preserved c =
     let done = c.padding_cycle.ensures in
     let k17 : 17 * at-loop.i + 17 - 17 * at-loop.i ≡ 17 = omega arith in (
       at-loop.invariant.0,
-      going_on (frozen_at c.args.row) c.args.n c.args.records.now _ at-loop.records (whole c.args.core at-loop.regs at-loop.ram)
+      going_on (frozen_at c.args.row) c.args.n c.args.records.now _ at-loop.records (whole c.args.core at-loop.memory)
           at-loop.i at-loop.invariant.1 c.loop-i-test.true _ _ done.cursor (simp (k17, done.shown)),
     )
 

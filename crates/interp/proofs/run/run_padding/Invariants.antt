@@ -7,7 +7,7 @@ use Rattle.interp.proofs.run.run_padding.Given as goal
 
 abbrev pub invariant-loop-i : goal.invariant-loop-i
 invariant-loop-i l =
-    InRange l.row × Going (frozen_at l.row) l.n l.fn.records (whole l.core l.fn.regs l.fn.ram) l.records (whole l.core l.regs l.ram) l.i
+    InRange l.row × Going (frozen_at l.row) l.n l.fn.records (whole l.core l.fn.memory) l.records (whole l.core l.memory) l.i
 
 abbrev pub decreases-loop-i : goal.decreases-loop-i
 decreases-loop-i l = l.n - l.i
