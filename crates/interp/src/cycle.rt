@@ -9,7 +9,7 @@ use crate::arms::{
     upper_arm,
 };
 use crate::effect::Effect;
-use crate::{Cursor, CycleRecord};
+use crate::{Cursor, CycleRecord, RECORD_WORDS};
 use expand::{MicroPc, RomRow, VirtualKind, Word};
 
 // A cursor in two halves: the loops take its numbers by value and its arrays lent, so that no cycle copies a cursor.
@@ -119,34 +119,43 @@ fn last_word(offset: u8, width: u8, flags: u64) -> u64
     o + 0x100 * w + 0x1_0000 * flags
 }
 
-// The 17 words of a record, into a part of 17 words.
-fn put(r: CycleRecord, out: &mut [u64])
-    requires { (length out.old ≡ 17) × (r.flags < 0x1000) }
+// The words of a record.
+#[tactic(auto, unfolding(crate::specs::Machine::words))]
+fn put(r: CycleRecord, out: &mut [u64; RECORD_WORDS])
+    requires { r.flags < 0x1000 }
     ensures { out.new ≡ words r }
 {
     let last = last_word(r.byte_offset, r.store_width, r.flags);
-    out[0] = r.micro_pc.0 as u64;
-    out[1] = r.rs1_val;
-    out[2] = r.rs2_val;
-    out[3] = r.rd_val;
-    out[4] = r.rd_old;
-    out[5] = r.rd as u64;
-    out[6] = r.ram_addr as u64;
-    out[7] = r.ram_word;
-    out[8] = r.ram_old;
-    out[9] = r.ram_new;
-    out[10] = r.store_src;
-    out[11] = r.next_pc.0 as u64;
-    out[12] = r.alu_a;
-    out[13] = r.alu_b;
-    out[14] = r.alu_out;
-    out[15] = r.shift_out;
-    out[16] = last;
+    *out = [
+        r.micro_pc.0 as u64,
+        r.rs1_val,
+        r.rs2_val,
+        r.rd_val,
+        r.rd_old,
+        r.rd as u64,
+        r.ram_addr as u64,
+        r.ram_word,
+        r.ram_old,
+        r.ram_new,
+        r.store_src,
+        r.next_pc.0 as u64,
+        r.alu_a,
+        r.alu_b,
+        r.alu_out,
+        r.shift_out,
+        last,
+    ];
 }
 
 // Writes the record of an effect at row `at`, and then does what it says to registers and RAM.
-fn put_effect(row: RomRow, at: MicroPc, e: Effect, memory: &mut Memory, out: &mut [u64])
-    requires { InRange row × (Sound e × (length out.old ≡ 17)) }
+fn put_effect(
+    row: RomRow,
+    at: MicroPc,
+    e: Effect,
+    memory: &mut Memory,
+    out: &mut [u64; RECORD_WORDS],
+)
+    requires { InRange row × Sound e }
     ensures regs { memory.new.regs ≡ regs_after e memory.old.regs }
     ensures ram { memory.new.ram ≡ ram_after e memory.old.ram }
     ensures shown { out.new ≡ words (record_of row at e memory.old.regs memory.old.ram) }
@@ -164,8 +173,14 @@ fn output_after(halts: bool, shown: u64, output: u64) -> u64
 }
 
 // `commit`: does what the effect of a live cycle says, and gives the numbers after it.
-fn commit(row: RomRow, core: Core, e: Effect, memory: &mut Memory, out: &mut [u64]) -> Core
-    requires { InRange row × (Sound e × ((core.cycles < 2 ^ 62) × (length out.old ≡ 17))) }
+fn commit(
+    row: RomRow,
+    core: Core,
+    e: Effect,
+    memory: &mut Memory,
+    out: &mut [u64; RECORD_WORDS],
+) -> Core
+    requires { InRange row × (Sound e × (core.cycles < 2 ^ 62)) }
     ensures cursor { whole result memory.new ≡ (commit row (whole core memory.old) e).after }
     ensures shown { out.new ≡ words (commit row (whole core memory.old) e).shown }
 {
@@ -201,9 +216,9 @@ pub(crate) fn live_cycle(
     count: usize,
     core: Core,
     memory: &mut Memory,
-    out: &mut [u64],
+    out: &mut [u64; RECORD_WORDS],
 ) -> Core
-    requires { InRange row × ((core.cycles < 2 ^ 62) × ((core.micro_pc.0 < count) × (length out.old ≡ 17))) }
+    requires { InRange row × ((core.cycles < 2 ^ 62) × (core.micro_pc.0 < count)) }
     ensures cursor { whole result memory.new ≡ (step_at row count (whole core memory.old)).after }
     ensures shown { out.new ≡ words (step_at row count (whole core memory.old)).shown }
 {
@@ -247,8 +262,13 @@ pub(crate) fn live_cycle(
 }
 
 // One padding cycle, `frozen_record`, of the row at next_fetch. The numbers of the cursor stay.
-pub(crate) fn padding_cycle(row: RomRow, core: Core, memory: &mut Memory, out: &mut [u64])
-    requires { InRange row × (length out.old ≡ 17) }
+pub(crate) fn padding_cycle(
+    row: RomRow,
+    core: Core,
+    memory: &mut Memory,
+    out: &mut [u64; RECORD_WORDS],
+)
+    requires { InRange row }
     ensures cursor { whole core memory.new ≡ (frozen_at row (whole core memory.old)).after }
     ensures shown { out.new ≡ words (frozen_at row (whole core memory.old)).shown }
 {

@@ -86,7 +86,11 @@ fn run_live(
             };
         }
         let base = RECORD_WORDS * i;
-        let record = &mut records[base..base + RECORD_WORDS];
+        let (_, rest) = records.split_at_mut(base);
+        let (part, _) = rest.split_at_mut(RECORD_WORDS);
+        let Some(record) = part.as_mut_array() else {
+            unreachable!()
+        };
         let next = live_cycle(row, rows.len(), core, memory, record);
         core = afresh(next);
         at = MicroPc(core.next_fetch.0);
@@ -100,11 +104,14 @@ fn run_padding(row: RomRow, core: Core, n: usize, memory: &mut Memory, records: 
     ensures cursor { whole core memory.new ≡ end (frozen_at row) n (whole core memory.old) }
     ensures records { records.new ≡ flat (recorded (frozen_at row) n (whole core memory.old)) ++ drop (17 * n) records.old }
 {
-    let mut i: usize = 0;
-    while i < n {
+    for i in 0..n {
         let base = RECORD_WORDS * i;
-        padding_cycle(row, core, memory, &mut records[base..base + RECORD_WORDS]);
-        i += 1;
+        let (_, rest) = records.split_at_mut(base);
+        let (part, _) = rest.split_at_mut(RECORD_WORDS);
+        let Some(record) = part.as_mut_array() else {
+            unreachable!()
+        };
+        padding_cycle(row, core, memory, record);
     }
 }
 

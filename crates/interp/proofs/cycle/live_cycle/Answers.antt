@@ -1,5 +1,5 @@
 -- `interp::live_cycle` meets its contract. Assumes nothing.
-use Rattle.std.proofs.Common.{◌≡◌, ℕ, ◌^◌, ◌<◌, List, length, refl, ◌∙◌}
+use Rattle.std.proofs.Common.{◌≡◌, ℕ, ◌^◌, ◌<◌, List, refl, ◌∙◌}
 use Rattle.expand.specs.declared.RomRow.{RomRow}
 use Rattle.interp.specs.declared.cycle.Core.{Core}
 use Rattle.interp.specs.declared.effect.Effect.{Effect}
@@ -14,12 +14,12 @@ abbrev the_effect : RomRow → Core → ℕ → List ℕ → List ℕ → Effect
 the_effect row core count regs ram = arm_of row.kind row core.micro_pc count (accumulator regs) regs ram
 
 -- it is sound, and so the cycle may end with it
-may_commit : (row : RomRow) (core : Core) (count : ℕ) (regs ram out : List ℕ) (e : Effect) → e ≡ the_effect row core count regs ram
-    → InRange row × ((core.cycles < 2 ^ 62) × ((core.micro_pc.0 < count) × (length out ≡ 17)))
-    → InRange row × (Sound e × ((core.cycles < 2 ^ 62) × (length out ≡ 17)))
-may_commit row core count regs ram out e h r =
-    let lawful = arm_lawful row core.micro_pc count regs r.0.rd r.1.1.0 row.kind (accumulator regs) ram in
-    (r.0, (rw h lawful.sound, (r.1.0, r.1.1.1)))
+may_commit : (row : RomRow) (core : Core) (count : ℕ) (regs ram : List ℕ) (e : Effect) → e ≡ the_effect row core count regs ram
+    → InRange row × ((core.cycles < 2 ^ 62) × (core.micro_pc.0 < count))
+    → InRange row × (Sound e × (core.cycles < 2 ^ 62))
+may_commit row core count regs ram e h r =
+    let lawful = arm_lawful row core.micro_pc count regs r.0.rd r.1.1 row.kind (accumulator regs) ram in
+    (r.0, (rw h lawful.sound, r.1.0))
 
 -- what each arm answers is that effect
 alu_is : (c : After-alu_arm-e) → c.alu_arm-e.result ≡ the_effect c.args.row c.args.core c.args.count c.args.memory.now.regs c.args.memory.now.ram
@@ -55,28 +55,28 @@ unfolding arm_of
 system_is c = simp (c.in-System.is, c.system_arm-e.ensures)
 
 pub commit-requires : goal.commit-requires
-commit-requires c = may_commit c.args.row c.args.core c.args.count c.args.memory.now.regs c.args.memory.now.ram c.args.out.now _ (alu_is (goal.at.commit-requires c).After-alu_arm-e) c.requires
+commit-requires c = may_commit c.args.row c.args.core c.args.count c.args.memory.now.regs c.args.memory.now.ram _ (alu_is (goal.at.commit-requires c).After-alu_arm-e) c.requires
 
 pub commit-requires-in-ShiftStage : goal.commit-requires-in-ShiftStage
-commit-requires-in-ShiftStage c = may_commit c.args.row c.args.core c.args.count c.args.memory.now.regs c.args.memory.now.ram c.args.out.now _ (stage_is (goal.at.commit-requires-in-ShiftStage c).After-stage_arm-e) c.requires
+commit-requires-in-ShiftStage c = may_commit c.args.row c.args.core c.args.count c.args.memory.now.regs c.args.memory.now.ram _ (stage_is (goal.at.commit-requires-in-ShiftStage c).After-stage_arm-e) c.requires
 
 pub commit-requires-in-Load : goal.commit-requires-in-Load
-commit-requires-in-Load c = may_commit c.args.row c.args.core c.args.count c.args.memory.now.regs c.args.memory.now.ram c.args.out.now _ (load_is (goal.at.commit-requires-in-Load c).After-load_arm-e) c.requires
+commit-requires-in-Load c = may_commit c.args.row c.args.core c.args.count c.args.memory.now.regs c.args.memory.now.ram _ (load_is (goal.at.commit-requires-in-Load c).After-load_arm-e) c.requires
 
 pub commit-requires-in-Store : goal.commit-requires-in-Store
-commit-requires-in-Store c = may_commit c.args.row c.args.core c.args.count c.args.memory.now.regs c.args.memory.now.ram c.args.out.now _ (store_is (goal.at.commit-requires-in-Store c).After-store_arm-e) c.requires
+commit-requires-in-Store c = may_commit c.args.row c.args.core c.args.count c.args.memory.now.regs c.args.memory.now.ram _ (store_is (goal.at.commit-requires-in-Store c).After-store_arm-e) c.requires
 
 pub commit-requires-in-Branch : goal.commit-requires-in-Branch
-commit-requires-in-Branch c = may_commit c.args.row c.args.core c.args.count c.args.memory.now.regs c.args.memory.now.ram c.args.out.now _ (branch_is (goal.at.commit-requires-in-Branch c).After-branch_arm-e) c.requires
+commit-requires-in-Branch c = may_commit c.args.row c.args.core c.args.count c.args.memory.now.regs c.args.memory.now.ram _ (branch_is (goal.at.commit-requires-in-Branch c).After-branch_arm-e) c.requires
 
 pub commit-requires-in-Upper : goal.commit-requires-in-Upper
-commit-requires-in-Upper c = may_commit c.args.row c.args.core c.args.count c.args.memory.now.regs c.args.memory.now.ram c.args.out.now _ (upper_is (goal.at.commit-requires-in-Upper c).After-upper_arm-e) c.requires
+commit-requires-in-Upper c = may_commit c.args.row c.args.core c.args.count c.args.memory.now.regs c.args.memory.now.ram _ (upper_is (goal.at.commit-requires-in-Upper c).After-upper_arm-e) c.requires
 
 pub commit-requires-in-Jump : goal.commit-requires-in-Jump
-commit-requires-in-Jump c = may_commit c.args.row c.args.core c.args.count c.args.memory.now.regs c.args.memory.now.ram c.args.out.now _ (jump_is (goal.at.commit-requires-in-Jump c).After-jump_arm-e) c.requires
+commit-requires-in-Jump c = may_commit c.args.row c.args.core c.args.count c.args.memory.now.regs c.args.memory.now.ram _ (jump_is (goal.at.commit-requires-in-Jump c).After-jump_arm-e) c.requires
 
 pub commit-requires-in-System : goal.commit-requires-in-System
-commit-requires-in-System c = may_commit c.args.row c.args.core c.args.count c.args.memory.now.regs c.args.memory.now.ram c.args.out.now _ (system_is (goal.at.commit-requires-in-System c).After-system_arm-e) c.requires
+commit-requires-in-System c = may_commit c.args.row c.args.core c.args.count c.args.memory.now.regs c.args.memory.now.ram _ (system_is (goal.at.commit-requires-in-System c).After-system_arm-e) c.requires
 
 pub returns-in-Alu : goal.returns-in-Alu
 unfolding step_at

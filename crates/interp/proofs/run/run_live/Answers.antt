@@ -1,5 +1,5 @@
 -- `interp::run_live` meets its contract. Assumes nothing.
-use Rattle.std.proofs.Common.{◌≡◌, ℕ, ◌+◌, ◌-◌, ◌*◌, ◌^◌, ◌<◌, ◌≤◌, Bool, true, false, cond, eqb, ◌++◌, length, drop, sym, refl, ap, ◌∙◌, zero-add, arith, length-drop, length-take}
+use Rattle.std.proofs.Common.{◌≡◌, ℕ, ◌+◌, ◌*◌, ◌^◌, ◌<◌, ◌≤◌, Bool, true, false, cond, eqb, ◌++◌, length, drop, sym, refl, ap, ◌∙◌, zero-add, arith}
 use native.Mathlib.Nat.{sub-zero}
 use Rattle.expand.specs.declared.MicroPc.{MicroPc}
 use Rattle.expand.specs.declared.RomRow.{RomRow}
@@ -68,20 +68,11 @@ returns-then-is_over c =
 pub overflow_mul-base : goal.overflow_mul-base
 overflow_mul-base c = omega (arith, in-room (goal.at.overflow_mul-base c).Else-is_over)
 
-pub overflow_add-record : goal.overflow_add-record
-overflow_add-record c = omega (arith, in-room (goal.at.overflow_add-record c).Else-is_over)
-
-pub offset_bounds-records-base : goal.offset_bounds-records-base
-offset_bounds-records-base c = omega (arith, in-room (goal.at.offset_bounds-records-base c).Else-is_over)
-
-pub slice_bounds-record-count : goal.slice_bounds-record-count
-slice_bounds-record-count c = omega (arith, in-room (goal.at.slice_bounds-record-count c).Else-is_over)
-
 pub live_cycle-next-requires : goal.live_cycle-next-requires
 live_cycle-next-requires c =
     let at-loop = c.loop-core in
     let lt = (running (goal.at.live_cycle-next-requires c).Else-is_over).1 in
-    (rw c.rom_row-row.ensures (row_in _), (omega (arith, at-loop.invariant.0.few lt, lt), (at-loop.invariant.0.pc, simp (length-take, length-drop) (omega (arith, in-room (goal.at.live_cycle-next-requires c).Else-is_over)))))
+    (rw c.rom_row-row.ensures (row_in _), (omega (arith, at-loop.invariant.0.few lt, lt), at-loop.invariant.0.pc))
 
 pub overflow_add-i : goal.overflow_add-i
 overflow_add-i c = omega (arith, in-room (goal.at.overflow_add-i c).Else-is_over)
@@ -101,9 +92,8 @@ loop-core-preserved c =
     let row = c.rom_row-row.ensures ∙ ap (λ (p : MicroPc). row_at rows p.0) here in
     let done = c.live_cycle-next.ensures in
     let after = done.cursor ∙ ap (λ (r : RomRow). (step_at r (length rows) now-at).after) row in
-    let k17 : 17 * at-loop.i + 17 - 17 * at-loop.i ≡ 17 = omega arith in
     rw c.afresh-core-in-loop-core.ensures (
       rw after (live_on rows c.args.limit _ now-at at-loop.i at-loop.invariant.0 run.0 run.1),
-      going_on (live rows) c.args.limit c.args.records.now _ at-loop.records now-at at-loop.i at-loop.invariant.1 run.1 _ _ after (simp (k17, done.shown, row)),
+      going_on (live rows) c.args.limit c.args.records.now _ at-loop.records now-at at-loop.i at-loop.invariant.1 run.1 _ _ after (simp (c.split_at_mut-rest.ensures.front, c.split_at_mut-rest.ensures.back, c.split_at_mut-part.ensures.back, done.shown, row)),
       turn-kept rows now-at _ (at-loop.i + 1) c.args.limit after,
     )
