@@ -136,11 +136,7 @@ pub(crate) fn next_power_of_two(n: u64) -> u64
     requires { n ≤ 2 ^ 62 }
     ensures { result ≡ next_power_of_two n }
 {
-    let mut p: u64 = 1;
-    while p < n {
-        p = 2 * p;
-    }
-    p
+    n.next_power_of_two()
 }
 
 // How many records a call makes that had so many live cycles.
