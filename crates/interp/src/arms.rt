@@ -223,7 +223,7 @@ pub(crate) fn branch_arm(
     let a = regs[rs1];
     let b = regs[rs2];
     let taken = values::branch_taken(row.funct3, a, b);
-    let difference = values::wrapping_sub(a, b);
+    let difference = a.wrapping_sub(b);
     let shown = showing(a, b, difference, 0, branch_flags(taken));
     let to = branch_next(taken, mp, row.imm, count, next);
     plain(keeps_cell(regs), no_access(), shown, to)
