@@ -1,13 +1,13 @@
 -- The segment call and the padding call: their refusals, what each returns and leaves in memory, and lists of them (01,
 -- "Padding cycle, segment call, padding call" and "Joined log and replay"). Assumes nothing: these are definitions.
-use Rattle.std.specs.Prelude.{ℕ, zero, suc, ◌+◌, ◌*◌, ◌^◌, Bool, true, false, not, ◌&&◌, List, [], ◌∷◌, ◌++◌, length, take, drop, ◌==◌, nat_lt}
+use Rattle.std.specs.Prelude.{ℕ, zero, suc, ◌+◌, ◌*◌, ◌^◌, Bool, true, false, not, ◌&&◌, Result, Ok, Err, List, [], ◌∷◌, ◌++◌, length, take, drop, ◌==◌, nat_lt}
 use Rattle.expand.specs.Expand.{Line, line, lowest, is_expansion}
 use Rattle.interp.specs.declared.Cursor.{Cursor}
 use Rattle.interp.specs.declared.CycleRecord.{CycleRecord}
-use Rattle.interp.specs.declared.Outcome.{Outcome}
-use Rattle.interp.specs.declared.Outcome.TheVariants.{Accepted, Refused}
 use Rattle.interp.specs.declared.Refusal.{Refusal}
 use Rattle.interp.specs.declared.Refusal.TheVariants.{NoRows, TooManyRows, NoExpansion, OutsideRows, TooManyCycles, Short}
+use Rattle.interp.specs.declared.Request.{Request}
+use Rattle.interp.specs.declared.Request.TheVariants.{Segment, Padding}
 use Rattle.interp.specs.Machine.{flat}
 use Rattle.interp.specs.Cycle.{Step, cycle, padding}
 
@@ -28,6 +28,11 @@ end f (suc n) c = end f n (f c).after
 -- a call: how many cycles, and the record buffer that is lent
 pub data Call : Type 0 where
   segment padded : ℕ → List ℕ → Call
+
+-- the call that a request makes, with the record buffer that is lent
+abbrev pub call_of : Request → List ℕ → Call
+call_of (Segment n) buffer = segment n buffer
+call_of (Padding n) buffer = padded n buffer
 
 -- how many cycles a call asks for
 unfoldable pub amount : Call → ℕ
@@ -103,9 +108,9 @@ refusal_number TooManyCycles = 5
 refusal_number Short = 6
 
 -- the paper's number of an outcome: 0 for accepted
-abbrev pub outcome_number : Outcome → ℕ
-outcome_number Accepted = 0
-outcome_number (Refused why) = refusal_number why
+abbrev pub outcome_number : {A : Type 0} → Result A Refusal → ℕ
+outcome_number (Ok accepted) = 0
+outcome_number (Err why) = refusal_number why
 
 -- ---- a list of calls, each of which gets the cursor that the one before returned
 

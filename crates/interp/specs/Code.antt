@@ -1,16 +1,18 @@
 -- What the private functions of src/ ask of their arguments and leave, and the two halves of a cursor that the loops work on.
 -- Assumes nothing: these are definitions.
-use Rattle.std.specs.Prelude.{ℕ, ◌+◌, ◌-◌, ◌*◌, ◌^◌, ◌<◌, ◌≤◌, Bool, cond, List, ◌++◌, drop, ◌==◌}
+use Rattle.std.specs.Prelude.{ℕ, ◌+◌, ◌-◌, ◌*◌, ◌^◌, ◌<◌, ◌≤◌, Bool, true, false, List, ◌++◌, drop}
 use Rattle.expand.specs.declared.RomRow.{RomRow}
 use Rattle.interp.specs.declared.cycle.Core.{Core}
 use Rattle.interp.specs.declared.cycle.Memory.{Memory}
 use Rattle.interp.specs.declared.Cursor.{Cursor}
 use Rattle.interp.specs.declared.effect.Effect.{Effect}
+use Rattle.interp.specs.declared.Request.{Request}
+use Rattle.interp.specs.declared.Request.TheVariants.{Segment, Padding}
 use Rattle.interp.specs.declared.run.Due.{Due}
 use Rattle.interp.specs.declared.run.Due.TheVariants.{Exactly, PowerOfTwo}
 use Rattle.interp.specs.Machine.{flat}
 use Rattle.interp.specs.Cycle.{Step, cycle, padding}
-use Rattle.interp.specs.Calls.{recorded, end, Call, segment, padded}
+use Rattle.interp.specs.Calls.{recorded, end}
 use Rattle.interp.specs.Execute.{live_count_of, live_records_of, stopped_at, next_power_of_two, Executed}
 
 -- a row's registers are x0 to x31
@@ -80,14 +82,22 @@ padded_to due rows limit c buffer =
       buffer = flat (live_records_of rows limit c) ++ (flat (recorded (padding rows) (count - taken) stopped) ++ drop (17 * count) buffer);
     }
 
--- the cycle of a segment call if seg, else of a padding call
-abbrev pub step_of : Bool → List ℕ → Cursor → Step
-step_of seg rows = cond seg (cycle rows) (padding rows)
+-- whether a request is for a segment
+abbrev pub wants_segment : Request → Bool
+wants_segment (Segment n) = true
+wants_segment (Padding n) = false
 
--- the segment call if seg, else the padding call
-abbrev pub call_of : Bool → ℕ → List ℕ → Call
-call_of seg n buffer = cond seg (segment n buffer) (padded n buffer)
+-- how many cycles a request is for
+abbrev pub length_of : Request → ℕ
+length_of (Segment n) = n
+length_of (Padding n) = n
 
--- of the numbers of two parts of a table of refusals, the first that is not 0
-abbrev pub first_of : ℕ → ℕ → ℕ
-first_of first rest = cond (first == 0) rest first
+-- the most live cycles of its call: a padding call has none
+abbrev pub limit_of : Request → ℕ
+limit_of (Segment n) = n
+limit_of (Padding n) = 0
+
+-- the cycle of its call
+abbrev pub step_of : Request → List ℕ → Cursor → Step
+step_of (Segment n) rows = cycle rows
+step_of (Padding n) rows = padding rows

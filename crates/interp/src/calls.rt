@@ -1,71 +1,45 @@
 // The segment call and the padding call, and what is claimed of lists of them.
-ghost use Rattle.std.specs.Prelude.{◌≡◌, cond};
-ghost use Rattle.interp.specs.Calls.{segment, padded, answer_of, outcome_number};
-ghost use Rattle.interp.specs.Code.{call_of};
+ghost use Rattle.std.specs.Prelude.{◌≡◌};
+ghost use Rattle.interp.specs.Calls.{call_of, answer_of, outcome_number};
+ghost use Rattle.interp.specs.Code.{limit_of};
 ghost use Rattle.interp.specs.Demand3.{Demand3};
 
-use crate::refusals::{judge, judge_cycles};
+use crate::refusals::judge_call;
 use crate::run::{Due, run_padded};
-use crate::{Answer, Cursor, Outcome};
+use crate::{Answer, Cursor, Request};
 
-// The most live cycles of a call of n cycles: a padding call has none.
-fn live_limit(is_segment: bool, n: usize) -> usize
-    ensures { result ≡ cond is_segment n 0 }
+// The most live cycles of a call: a padding call has none.
+fn live_limit(request: Request) -> u64
+    ensures { result ≡ limit_of request }
 {
-    if is_segment { n } else { 0 }
-}
-
-// What both calls do.
-fn answer_call(
-    is_segment: bool,
-    rows: &[u64],
-    cursor: Cursor,
-    n: u64,
-    records: &mut [u64],
-) -> Answer
-    ensures answer { outcome_number result.outcome ≡ (answer_of rows.now cursor (call_of is_segment n records.old)).number }
-    ensures cursor { result.cursor ≡ (answer_of rows.now cursor (call_of is_segment n records.old)).cursor }
-    ensures records { records.new ≡ (answer_of rows.now cursor (call_of is_segment n records.old)).buffer }
-{
-    let outcome = judge(
-        rows,
-        judge_cycles(rows.len(), cursor, is_segment, n, records.len()),
-    );
-    match outcome {
-        Outcome::Refused(_) => Answer {
-            outcome: outcome,
-            cursor: cursor,
-        },
-        Outcome::Accepted => {
-            let limit = live_limit(is_segment, n as usize);
-            let ran = run_padded(rows, cursor, limit, Due::Exactly(n as usize), records);
-            let after = ran.cursor;
-            Answer {
-                outcome: outcome,
-                cursor: after,
-            }
-        }
+    match request {
+        Request::Segment(n) => n,
+        Request::Padding(_) => 0,
     }
 }
 
-// The segment call: n cycles, live until the machine halts, then padding. Their records go to the first 17 n words of
-// `records`. A refused call leaves `records` as it was and returns the cursor that it got.
-pub fn run_segment(rows: &[u64], cursor: Cursor, n: u64, records: &mut [u64]) -> Answer
-    ensures answer { outcome_number result.outcome ≡ (answer_of rows.now cursor (segment n records.old)).number }
-    ensures cursor { result.cursor ≡ (answer_of rows.now cursor (segment n records.old)).cursor }
-    ensures records { records.new ≡ (answer_of rows.now cursor (segment n records.old)).buffer }
+// The segment call or the padding call. The records of its n cycles go to the first 17 n words of `records`. A refused call
+// leaves `records` as it was and returns the cursor that it got. The padding call cannot meet refusal 5.
+pub fn run_call(rows: &[u64], cursor: Cursor, request: Request, records: &mut [u64]) -> Answer
+    ensures answer { outcome_number result.outcome ≡ (answer_of rows.now cursor (call_of request records.old)).number }
+    ensures cursor { result.cursor ≡ (answer_of rows.now cursor (call_of request records.old)).cursor }
+    ensures records { records.new ≡ (answer_of rows.now cursor (call_of request records.old)).buffer }
 {
-    answer_call(true, rows, cursor, n, records)
-}
-
-// The padding call: n padding cycles at row next_fetch, also on a live machine. Records and refusals are as above, but 5 is
-// none of them.
-pub fn pad_records(rows: &[u64], cursor: Cursor, n: u64, records: &mut [u64]) -> Answer
-    ensures answer { outcome_number result.outcome ≡ (answer_of rows.now cursor (padded n records.old)).number }
-    ensures cursor { result.cursor ≡ (answer_of rows.now cursor (padded n records.old)).cursor }
-    ensures records { records.new ≡ (answer_of rows.now cursor (padded n records.old)).buffer }
-{
-    answer_call(false, rows, cursor, n, records)
+    match judge_call(rows, cursor, request, records.len()) {
+        Err(why) => Answer {
+            outcome: Err(why),
+            cursor,
+        },
+        Ok(()) => {
+            let limit = live_limit(request) as usize;
+            let due = Due::Exactly(request.length() as usize);
+            let ran = run_padded(rows, cursor, limit, due, records);
+            Answer {
+                outcome: Ok(()),
+                cursor: ran.cursor,
+            }
+        }
+    }
 }
 
 // Demand 3, for every list of calls (specs/Demand3.antt). The function does nothing; its contract is the claim.

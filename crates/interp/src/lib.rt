@@ -14,9 +14,10 @@ mod values;
 ghost use Rattle.std.specs.Prelude.{◌≡◌};
 ghost use Rattle.interp.specs.Machine.{start_of};
 ghost use Rattle.interp.specs.Calls.{refusal_number};
+ghost use Rattle.interp.specs.Code.{length_of};
 ghost use Rattle.interp.specs.Laws.{CycleLaws};
 
-pub use calls::{demand_3, pad_records, run_segment};
+pub use calls::{demand_3, run_call};
 pub use executing::{execute, execute_laws};
 use expand::{MicroPc, Word};
 pub use values::signed_readings;
@@ -64,14 +65,11 @@ impl Cursor {
         ensures { result ≡ start_of input.now }
     {
         let mut ram = [0u64; Cursor::RAM_WORDS];
-        let mut i: usize = 0;
-        while i < Cursor::RAM_WORDS && i < input.len() {
-            ram[i] = input[i];
-            i += 1;
-        }
+        let kept = input.len().min(Cursor::RAM_WORDS);
+        ram[..kept].copy_from_slice(&input[..kept]);
         Cursor {
             regs: [0; Cursor::REGS],
-            ram: ram,
+            ram,
             micro_pc: MicroPc(0),
             cycles: 0,
             halted: false,
@@ -81,7 +79,8 @@ impl Cursor {
     }
 }
 
-// The record of a cycle. The source's twelve bools are one number, the sum of their bits.
+// The record of a cycle. The source's twelve bools are one number, the sum of their bits, because word 16 of a record holds
+// that number: twelve fields would be added up again there.
 #[derive(Clone, Copy)]
 pub struct CycleRecord {
     pub micro_pc: MicroPc,
@@ -131,8 +130,29 @@ impl CycleRecord {
     pub const HALTED_LATCH: u64 = 0x800;
 }
 
-// Why a call is refused.
-#[derive(Clone, Copy)]
+// What a call is asked for, and of how many cycles.
+#[derive(Clone, Copy, Debug, PartialEq, Eq)]
+pub enum Request {
+    // The segment call: so many cycles, live until the machine halts, then padding.
+    Segment(u64),
+    // The padding call: so many padding cycles at row next_fetch, also on a live machine.
+    Padding(u64),
+}
+
+impl Request {
+    // How many cycles, and so how many records.
+    pub(crate) fn length(self) -> u64
+        ensures { result ≡ length_of self }
+    {
+        match self {
+            Request::Segment(n) => n,
+            Request::Padding(n) => n,
+        }
+    }
+}
+
+// Why a call is refused. `expand` has a narrower type of this name, since its call can meet three of these cases only.
+#[derive(Clone, Copy, Debug, PartialEq, Eq)]
 pub enum Refusal {
     // 1: there are no rows.
     NoRows,
@@ -148,12 +168,12 @@ pub enum Refusal {
     Short,
 }
 
-impl Refusal {
-    // Its number in document 01's table.
-    pub fn number(self) -> u64
-        ensures { result ≡ refusal_number self }
-    {
-        match self {
+// Its number in document 01's table.
+impl From<Refusal> for u64 {
+    ghost from_gives = { λ why number. number ≡ refusal_number why };
+
+    fn from(why: Refusal) -> u64 {
+        match why {
             Refusal::NoRows => 1,
             Refusal::TooManyRows => 2,
             Refusal::NoExpansion => 3,
@@ -164,24 +184,17 @@ impl Refusal {
     }
 }
 
-#[derive(Clone, Copy)]
-pub enum Outcome {
-    Accepted,
-    Refused(Refusal),
-}
-
-// The answer of a call: an enum cannot hold the cursor's arrays, so it stands beside.
+// The answer of a call. The cursor stands beside the outcome and not in it, since it comes back in both cases: a refused call
+// hands back the one that it got.
 #[derive(Clone, Copy)]
 pub struct Answer {
-    pub outcome: Outcome,
+    pub outcome: Result<(), Refusal>,
     pub cursor: Cursor,
 }
 
-// The answer of execute: how many cycles were live, how many records there are, and the cursor after padding. If it is
-// refused, both counts are 0 and the cursor is the blank one.
+// What execute answers if it is accepted: how many cycles were live, how many records there are, and the cursor after padding.
 #[derive(Clone, Copy)]
 pub struct Execution {
-    pub outcome: Outcome,
     pub live_count: u64,
     pub record_count: u64,
     pub cursor: Cursor,

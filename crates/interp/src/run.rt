@@ -5,10 +5,9 @@ ghost use Rattle.interp.specs.Cycle.{frozen_at};
 ghost use Rattle.interp.specs.Calls.{recorded, end};
 ghost use Rattle.interp.specs.Execute.{live_count_of, stopped_at, live_records_of, next_power_of_two};
 ghost use Rattle.interp.specs.Code.{InRange, whole, core_of, due_of, Ready, Room, padded_to};
-ghost use Rattle.interp.specs.declared.Outcome.TheVariants.{Accepted};
 
 use crate::cycle::{Core, Memory, live_cycle, padding_cycle};
-use crate::{Cursor, Execution, Outcome, RECORD_WORDS};
+use crate::{Cursor, Execution, RECORD_WORDS};
 use expand::{MicroPc, RomRow};
 
 // How many records are due.
@@ -189,7 +188,6 @@ pub(crate) fn run_padded(
     records: &mut [u64],
 ) -> Execution
     requires { Ready (length rows.now) (core_of cursor) limit (length records.old) × Room due limit (length records.old) }
-    ensures outcome { result.outcome ≡ Accepted }
     ensures live { result.live_count ≡ (padded_to due rows.now limit cursor records.old).live_count }
     ensures count { result.record_count ≡ (padded_to due rows.now limit cursor records.old).record_count }
     ensures cursor { result.cursor ≡ (padded_to due rows.now limit cursor records.old).cursor }
@@ -207,7 +205,6 @@ pub(crate) fn run_padded(
     pad_rest(stopped, count, &mut memory, records);
     let after = whole_of(stopped.core, memory);
     Execution {
-        outcome: Outcome::Accepted,
         live_count: stopped.count as u64,
         record_count: count as u64,
         cursor: after,

@@ -4,6 +4,7 @@ use Rattle.std.proofs.Common.{◌≡◌, ℕ, zero, suc, ◌+◌, ◌-◌, ◌*�
 use lib.ListN.{length-replicate}
 use Rattle.expand.specs.Expand.{lowest}
 use Rattle.interp.specs.declared.Cursor.{Cursor}
+use Rattle.interp.specs.declared.Request.TheVariants.{Segment, Padding}
 use Rattle.interp.specs.Machine.{start_of, flat}
 use Rattle.interp.specs.Cycle.{commit, step_at, live, frozen_at, padding, cycle}
 use Rattle.interp.specs.Calls.{recorded, end, segment, padded, amount, refusals, Answered, answer_of, counted, added, last, log}
@@ -134,11 +135,11 @@ module _ (rows : List ℕ) where
 
     segment-end : end (cycle rows) k c ≡ stopped_at rows max c
     unfolding end
-    segment-end = sym (ran_end rows true k c) ∙ rw (none, count_again max c) refl
+    segment-end = sym (ran_end rows (Segment k) c) ∙ rw (none, count_again max c) refl
 
     segment-recorded : recorded (cycle rows) k c ≡ live_records_of rows max c
     unfolding recorded
-    segment-recorded = sym (ran_recorded rows true k c) ∙ rw (none, count_again max c) (append-nil (live_records_of rows max c))
+    segment-recorded = sym (ran_recorded rows (Segment k) c) ∙ rw (none, count_again max c) (append-nil (live_records_of rows max c))
 
   -- live cycles stay within the rows
   inside : (n : ℕ) (c : Cursor) → c.micro_pc.0 < length rows → c.next_fetch.0 < length rows
@@ -189,8 +190,8 @@ two_calls rows c m n z₁ z₂ e₁ e₂ =
     let c₁ = end (cycle rows) m c in
     let p = flat (recorded (cycle rows) m c) in
     let q = flat (recorded (padding rows) n c₁) in
-    let a₁ = accepted_answer true rows c m z₁ e₁ in
-    let a₂ = accepted_answer false rows c₁ n z₂ e₂ in
+    let a₁ = accepted_answer (Segment m) rows c z₁ e₁ in
+    let a₂ = accepted_answer (Padding n) rows c₁ z₂ e₂ in
     let cursor : Answered → Cursor = λ a. a.cursor in (
       rw (a₁, a₂) (ap₂ ◌++◌ (take_at p (drop (17 * m) z₁) (17 * m) (length-words (cycle rows) m c)) (append-nil (take (17 * n) (q ++ drop (17 * n) z₂)) ∙ take_at q (drop (17 * n) z₂) (17 * n) (length-words (padding rows) n c₁))),
       ap (λ (d : Cursor). (answer_of rows d (padded n z₂)).cursor) (ap cursor a₁) ∙ ap cursor a₂,

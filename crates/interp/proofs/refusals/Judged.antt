@@ -1,31 +1,19 @@
--- The tests of the refusals, without a sum or product that could overflow, and what an accepted call has. Assumes nothing.
-use Rattle.std.proofs.Common.{◌≡◌, ℕ, zero, suc, ◌+◌, ◌-◌, ◌*◌, ◌/◌, ◌^◌, ◌<◌, ◌≤◌, Bool, true, false, cond, not, ◌&&◌, eqb, ltb, List, [], ◌++◌, length, drop, sym, refl, ap, ◌∙◌, arith, ltb-false, ltb-true, le-ltb, lt-ltb, ne_eqb}
+-- What an accepted call has, and what calls return and leave. Assumes nothing.
+use Rattle.std.proofs.Common.{◌≡◌, ℕ, zero, suc, ◌+◌, ◌*◌, ◌^◌, ◌<◌, ◌≤◌, Bool, true, false, cond, not, ◌&&◌, eqb, ltb, List, [], ◌++◌, length, drop, sym, refl, ◌∙◌, arith, ltb-false, ltb-true, le-ltb, lt-ltb, ne_eqb}
 use mathlib.Core.Bool.{false≢true}
 use borrow.Author.Tests.{eqb-false}
 use Rattle.expand.specs.Expand.{Line, lowest, is_expansion}
 use Rattle.interp.specs.declared.Cursor.{Cursor}
 use Rattle.interp.specs.declared.Refusal.{Refusal}
 use Rattle.interp.specs.declared.Refusal.TheVariants.{NoRows, TooManyRows, NoExpansion, OutsideRows, TooManyCycles, Short}
+use Rattle.interp.specs.declared.Request.{Request}
+use Rattle.interp.specs.declared.Request.TheVariants.{Segment, Padding}
 use Rattle.interp.specs.declared.run.Due.TheVariants.{Exactly, PowerOfTwo}
 use Rattle.interp.specs.Machine.{start_of, flat}
-use Rattle.interp.specs.Code.{core_of, Ready, Room, step_of, call_of, first_of}
-use Rattle.interp.specs.Calls.{recorded, end, Call, is_segment, amount, lent, turn, row_lines, call_lines, refusals, refusal_of, settled, answer_of, refusal_number}
+use Rattle.interp.specs.Code.{core_of, Ready, Room, wants_segment, length_of, limit_of, step_of}
+use Rattle.interp.specs.Calls.{recorded, end, Call, call_of, is_segment, amount, lent, turn, row_lines, call_lines, refusals, refusal_of, settled, answer_of, refusal_number}
 use Rattle.interp.specs.Execute.{next_power_of_two, length_lines, execute_refusals, executed, execution_for, execute_of}
 use Rattle.interp.proofs.run.Powers.{smallest, power_mono}
-
--- tests that hold together are equal
-same_test : (a b x y : ℕ) → (a < b → x < y) → (b ≤ a → y ≤ x) → ltb a b ≡ ltb x y
-same_test a b x y f g = go (ltb a b) refl
-  where
-    go : (t : Bool) → ltb a b ≡ t → ltb a b ≡ ltb x y
-    go true e = e ∙ sym (lt-ltb x y (f (ltb-true a b e)))
-    go false e = e ∙ sym (le-ltb x y (g (ltb-false a b e)))
-
-pub short_of : (room n : ℕ) → ltb (room / 17) n ≡ ltb room (17 * n)
-short_of room n = same_test (room / 17) n room (17 * n) (λ h. omega arith) (λ h. omega arith)
-
-pub over_of : (cycles n : ℕ) → n ≤ 2 ^ 62 → ltb (2 ^ 62 - n) cycles ≡ ltb (2 ^ 62) (cycles + n)
-over_of cycles n h = same_test (2 ^ 62 - n) cycles (2 ^ 62) (cycles + n) (λ l. omega arith) (λ l. omega arith)
 
 -- a line that is not returned is not met
 unmet : (b : Bool) (number rest : ℕ) → 0 < number → cond b number rest ≡ 0 → (b ≡ false) × (rest ≡ 0)
@@ -39,15 +27,6 @@ both false b e = absurd (false≢true (sym e))
 
 -- ---- the lines that rows meet, and the others behind them
 
-first_three : (a b c : Bool) (rest : ℕ) → cond a 1 (cond b 2 (cond c 3 rest)) ≡ cond (eqb (cond a 1 (cond b 2 (cond c 3 0))) 0) rest (cond a 1 (cond b 2 (cond c 3 0)))
-first_three true b c rest = refl
-first_three false true c rest = refl
-first_three false false true rest = refl
-first_three false false false rest = refl
-
-rows_first : (rows : List ℕ) (rest : List Line) → lowest (row_lines rows ++ rest) ≡ first_of (lowest (row_lines rows)) (lowest rest)
-rows_first rows rest = first_three (eqb (length rows) 0) (ltb 6291456 (length rows)) (not (is_expansion rows)) (lowest rest)
-
 -- no refusal has the number of an accepted call
 refused_pos : (why : Refusal) → 0 < refusal_number why
 refused_pos NoRows = omega arith
@@ -60,21 +39,18 @@ refused_pos Short = omega arith
 pub refused_not_0 : (why : Refusal) → eqb (refusal_number why) 0 ≡ false
 refused_not_0 why = ne_eqb (refusal_number why) 0 (omega (arith, refused_pos why))
 
--- of two parts of a table the first decides if it refuses, else the other does
-pub first-refused : (why : Refusal) (first rest : ℕ) → refusal_number why ≡ first → refusal_number why ≡ first_of first rest
-first-refused why first rest e = e ∙ sym (rw (sym e, refused_not_0 why) refl)
+-- rows of an accepted call meet no line, and no other line is met
+rows_unmet : (rows : List ℕ) (rest : List Line) → lowest (row_lines rows ++ rest) ≡ 0
+    → (eqb (length rows) 0 ≡ false) × (ltb 6291456 (length rows) ≡ false) × (not (is_expansion rows) ≡ false) × (lowest rest ≡ 0)
+rows_unmet rows rest e =
+    let p₁ = unmet (eqb (length rows) 0) 1 _ (omega arith) e in
+    let p₂ = unmet (ltb 6291456 (length rows)) 2 _ (omega arith) p₁.1 in
+    let p₃ = unmet (not (is_expansion rows)) 3 _ (omega arith) p₂.1 in
+    (p₁.0, p₂.0, p₃.0, p₃.1)
 
-pub first_passed : (first rest : ℕ) → 0 ≡ first → rest ≡ first_of first rest
-first_passed first rest e = rw (sym e) refl
-
--- what `judge` tells is the number of the whole table, where `rest` is judged by the other lines
-pub of_rows : (rows : List ℕ) (rest : List Line) {number judged : ℕ} → judged ≡ lowest rest
-    → number ≡ first_of (lowest (row_lines rows)) judged → number ≡ lowest (row_lines rows ++ rest)
-of_rows rows rest h e = e ∙ ap (first_of (lowest (row_lines rows))) h ∙ sym (rows_first rows rest)
-
--- rows that are not leave it to the other lines
+-- rows that meet no line leave it to the other lines
 rows_passed : (rows : List ℕ) (rest : List Line) → 0 ≡ lowest (row_lines rows) → lowest rest ≡ lowest (row_lines rows ++ rest)
-rows_passed rows rest e = sym (rows_first rows rest ∙ rw (sym e) refl)
+rows_passed rows rest e = let u = rows_unmet rows [] (sym e) in rw (u.0, u.1, u.2) refl
 
 -- what rows have in an accepted call: there are some, they meet no line, and no other line is met
 pub record Passed (rows : List ℕ) (rest : List Line) : Type 0 where
@@ -84,38 +60,38 @@ pub record Passed (rows : List ℕ) (rest : List Line) : Type 0 where
 
 pub rows_accepted : (rows : List ℕ) (rest : List Line) → lowest (row_lines rows ++ rest) ≡ 0 → Passed rows rest
 rows_accepted rows rest e =
-    let p₁ = unmet (eqb (length rows) 0) 1 _ (omega arith) e in
-    let p₂ = unmet (ltb 6291456 (length rows)) 2 _ (omega arith) p₁.1 in
-    let p₃ = unmet (not (is_expansion rows)) 3 _ (omega arith) p₂.1 in
-    record { some = omega (arith, eqb-false (length rows) 0 p₁.0); none = rw (p₁.0, p₂.0, p₃.0) refl; others = p₃.1 }
+    let u = rows_unmet rows rest e in
+    record { some = omega (arith, eqb-false (length rows) 0 u.0); none = rw (u.0, u.1, u.2) refl; others = u.3 }
 
 -- ---- what an accepted call has
 
 -- only a segment call counts its cycles
-few_of : (seg : Bool) (cycles n : ℕ) → (seg && ltb (2 ^ 62) (cycles + n)) ≡ false → 0 < cond seg n 0 → cycles + cond seg n 0 ≤ 2 ^ 62
-few_of true cycles n e p = ltb-false _ _ e
-few_of false cycles n e p = absurd (omega (arith, p))
+few_of : (request : Request) (cycles : ℕ) → (wants_segment request && ltb (2 ^ 62) (cycles + length_of request)) ≡ false
+    → 0 < limit_of request → cycles + limit_of request ≤ 2 ^ 62
+few_of (Segment n) cycles e p = ltb-false _ _ e
+few_of (Padding n) cycles e p = absurd (omega (arith, p))
 
-upto_n : (seg : Bool) (n : ℕ) → cond seg n 0 ≤ n
-upto_n true n = omega arith
-upto_n false n = omega arith
+upto_n : (request : Request) → limit_of request ≤ length_of request
+upto_n (Segment n) = omega arith
+upto_n (Padding n) = omega arith
 
-pub accepted : (rows : List ℕ) (c : Cursor) (seg : Bool) (n room : ℕ) → lowest (refusals rows c seg n room) ≡ 0
-    → Ready (length rows) (core_of c) (cond seg n 0) room × Room (Exactly n) (cond seg n 0) room
-accepted rows c seg n room e =
-    let p₃ = rows_accepted rows (call_lines (length rows) c seg n room) e in
+pub accepted : (rows : List ℕ) (c : Cursor) (request : Request) (room : ℕ)
+    → 0 ≡ lowest (refusals rows c (wants_segment request) (length_of request) room)
+    → Ready (length rows) (core_of c) (limit_of request) room × Room (Exactly (length_of request)) (limit_of request) room
+accepted rows c request room e =
+    let p₃ = rows_accepted rows (call_lines (length rows) c (wants_segment request) (length_of request) room) (sym e) in
     let p₄ = unmet (not (ltb c.micro_pc.0 (length rows) && ltb c.next_fetch.0 (length rows))) 4 _ (omega arith) p₃.others in
-    let p₅ = unmet (seg && ltb (2 ^ 62) (c.cycles + n)) 5 _ (omega arith) p₄.1 in
-    let p₆ = unmet (ltb room (17 * n)) 6 _ (omega arith) p₅.1 in
+    let p₅ = unmet (wants_segment request && ltb (2 ^ 62) (c.cycles + length_of request)) 5 _ (omega arith) p₄.1 in
+    let p₆ = unmet (ltb room (17 * length_of request)) 6 _ (omega arith) p₅.1 in
     let inside = both (ltb c.micro_pc.0 (length rows)) (ltb c.next_fetch.0 (length rows)) p₄.0 in
-    let fits : 17 * n ≤ room = ltb-false _ _ p₆.0 in (
+    let fits : 17 * length_of request ≤ room = ltb-false _ _ p₆.0 in (
       record {
         pc = ltb-true _ _ inside.0;
         fetch = ltb-true _ _ inside.1;
-        few_cycles = few_of seg c.cycles n p₅.0;
-        fits = omega (arith, fits, upto_n seg n);
+        few_cycles = few_of request c.cycles p₅.0;
+        fits = omega (arith, fits, upto_n request);
       },
-      record { enough = λ count h. omega (arith, h, upto_n seg n); fits = λ count h. fits },
+      record { enough = λ count h. omega (arith, h, upto_n request); fits = λ count h. fits },
     )
 
 -- an accepted execution begins at row 0
@@ -153,44 +129,45 @@ fits_accepted rows c seg n room none pc fetch few fits =
 -- ---- the answers
 
 -- the number that a call returns is that of the tests
-pub judged : (seg : Bool) (rows : List ℕ) (c : Cursor) (n : ℕ) (buffer : List ℕ)
-    → lowest (refusals rows c seg n (length buffer)) ≡ refusal_of rows c (call_of seg n buffer)
+judged : (request : Request) (rows : List ℕ) (c : Cursor) (buffer : List ℕ)
+    → lowest (refusals rows c (wants_segment request) (length_of request) (length buffer)) ≡ refusal_of rows c (call_of request buffer)
 unfolding refusal_of is_segment amount lent
-judged true rows c n buffer = refl
-judged false rows c n buffer = refl
+judged (Segment n) rows c buffer = refl
+judged (Padding n) rows c buffer = refl
 
--- with a number that is not 0 a call leaves all as it was
+-- a refused call leaves all as it was
 refused_leaves : (number : ℕ) (rows : List ℕ) (c : Cursor) (k : Call) → 0 < number
     → settled number rows c k ≡ record { number = number; cursor = c; buffer = lent k }
 unfolding settled
 refused_leaves zero rows c k p = absurd (omega arith)
 refused_leaves (suc number) rows c k p = refl
 
-lent_is : (seg : Bool) (n : ℕ) (buffer : List ℕ) → lent (call_of seg n buffer) ≡ buffer
+lent_is : (request : Request) (buffer : List ℕ) → lent (call_of request buffer) ≡ buffer
 unfolding lent
-lent_is true n buffer = refl
-lent_is false n buffer = refl
+lent_is (Segment n) buffer = refl
+lent_is (Padding n) buffer = refl
 
-pub refused_answer : (why : Refusal) (seg : Bool) (rows : List ℕ) (c : Cursor) (n : ℕ) (buffer : List ℕ)
-    → refusal_number why ≡ lowest (refusals rows c seg n (length buffer))
-    → answer_of rows c (call_of seg n buffer) ≡ record { number = refusal_number why; cursor = c; buffer = buffer }
+pub refused_answer : (why : Refusal) (request : Request) (rows : List ℕ) (c : Cursor) (buffer : List ℕ)
+    → refusal_number why ≡ lowest (refusals rows c (wants_segment request) (length_of request) (length buffer))
+    → answer_of rows c (call_of request buffer) ≡ record { number = refusal_number why; cursor = c; buffer = buffer }
 unfolding answer_of
-refused_answer why seg rows c n buffer e =
-    rw (sym (e ∙ judged seg rows c n buffer)) (refused_leaves _ rows c (call_of seg n buffer) (refused_pos why) ∙ rw (lent_is seg n buffer) refl)
+refused_answer why request rows c buffer e =
+    rw (sym (e ∙ judged request rows c buffer)) (refused_leaves _ rows c (call_of request buffer) (refused_pos why) ∙ rw (lent_is request buffer) refl)
 
 -- an accepted call runs its cycles
-ran : (seg : Bool) (rows : List ℕ) (c : Cursor) (n : ℕ) (buffer : List ℕ)
-    → settled 0 rows c (call_of seg n buffer)
-    ≡ record { number = 0; cursor = end (step_of seg rows) n c; buffer = flat (recorded (step_of seg rows) n c) ++ drop (17 * n) buffer }
+ran : (request : Request) (rows : List ℕ) (c : Cursor) (buffer : List ℕ)
+    → settled 0 rows c (call_of request buffer)
+    ≡ record { number = 0; cursor = end (step_of request rows) (length_of request) c; buffer = flat (recorded (step_of request rows) (length_of request) c) ++ drop (17 * length_of request) buffer }
 unfolding settled turn amount lent
-ran true rows c n buffer = refl
-ran false rows c n buffer = refl
+ran (Segment n) rows c buffer = refl
+ran (Padding n) rows c buffer = refl
 
-pub accepted_answer : (seg : Bool) (rows : List ℕ) (c : Cursor) (n : ℕ) (buffer : List ℕ) → 0 ≡ lowest (refusals rows c seg n (length buffer))
-    → answer_of rows c (call_of seg n buffer)
-    ≡ record { number = 0; cursor = end (step_of seg rows) n c; buffer = flat (recorded (step_of seg rows) n c) ++ drop (17 * n) buffer }
+pub accepted_answer : (request : Request) (rows : List ℕ) (c : Cursor) (buffer : List ℕ)
+    → 0 ≡ lowest (refusals rows c (wants_segment request) (length_of request) (length buffer))
+    → answer_of rows c (call_of request buffer)
+    ≡ record { number = 0; cursor = end (step_of request rows) (length_of request) c; buffer = flat (recorded (step_of request rows) (length_of request) c) ++ drop (17 * length_of request) buffer }
 unfolding answer_of
-accepted_answer seg rows c n buffer e = rw (sym (e ∙ judged seg rows c n buffer)) (ran seg rows c n buffer)
+accepted_answer request rows c buffer e = rw (sym (e ∙ judged request rows c buffer)) (ran request rows c buffer)
 
 -- ---- execute
 

@@ -9,11 +9,13 @@ use Rattle.expand.specs.declared.RomRow.{RomRow}
 use Rattle.expand.proofs.Laws.{laws}
 use Rattle.interp.specs.declared.Cursor.{Cursor}
 use Rattle.interp.specs.declared.CycleRecord.{CycleRecord}
+use Rattle.interp.specs.declared.Request.{Request}
+use Rattle.interp.specs.declared.Request.TheVariants.{Segment, Padding}
 use Rattle.interp.specs.Machine.{row_at, flat}
 use Rattle.interp.specs.Cycle.{Step, accumulator, commit, step_at, live, frozen_at, padding, cycle}
 use Rattle.interp.specs.Calls.{recorded, end}
 use Rattle.interp.specs.Execute.{live_count_of, live_records_of, stopped_at}
-use Rattle.interp.specs.Code.{step_of}
+use Rattle.interp.specs.Code.{length_of, limit_of, step_of}
 use Rattle.interp.proofs.arms.Lawful.{arm_lawful}
 use Rattle.interp.proofs.calls.Runs.{flat_append, length-words}
 
@@ -99,17 +101,19 @@ module _ (rows : List ℕ) where
           rw (count-live n c e, suc-sub-suc n k, cycle-live c e) (rest.0, ap (λ (rs : List CycleRecord). (live rows c).shown ∷ rs) rest.1)
 
   -- the same of both calls
-  pub ran_end : (b : Bool) (n : ℕ) (c : Cursor)
-      → end (padding rows) (n - live_count_of rows (cond b n 0) c) (stopped_at rows (cond b n 0) c) ≡ end (step_of b rows) n c
+  pub ran_end : (request : Request) (c : Cursor)
+      → end (padding rows) (length_of request - live_count_of rows (limit_of request) c) (stopped_at rows (limit_of request) c)
+      ≡ end (step_of request rows) (length_of request) c
   unfolding live_count_of end
-  ran_end true n c = sym (split n c).0
-  ran_end false n c = rw (sub-zero n) refl
+  ran_end (Segment n) c = sym (split n c).0
+  ran_end (Padding n) c = rw (sub-zero n) refl
 
-  pub ran_recorded : (b : Bool) (n : ℕ) (c : Cursor)
-      → live_records_of rows (cond b n 0) c ++ recorded (padding rows) (n - live_count_of rows (cond b n 0) c) (stopped_at rows (cond b n 0) c) ≡ recorded (step_of b rows) n c
+  pub ran_recorded : (request : Request) (c : Cursor)
+      → live_records_of rows (limit_of request) c ++ recorded (padding rows) (length_of request - live_count_of rows (limit_of request) c) (stopped_at rows (limit_of request) c)
+      ≡ recorded (step_of request rows) (length_of request) c
   unfolding live_count_of end recorded
-  ran_recorded true n c = sym (split n c).1
-  ran_recorded false n c = rw (sub-zero n) refl
+  ran_recorded (Segment n) c = sym (split n c).1
+  ran_recorded (Padding n) c = rw (sub-zero n) refl
 
   -- ---- padding stays at its row, which is taken apart once
 
@@ -155,14 +159,15 @@ module _ (rows : List ℕ) where
           o₂ ∙ rw (behind, padded_recorded, ap (take (17 * count)) o₁ ∙ take_at p (drop (17 * count) buffer) (17 * count) l) refl
 
   -- of both calls, the records of the live cycles and of padding joined
-  pub ran_words : (b : Bool) (n : ℕ) (c : Cursor) (rest : List ℕ)
-      → flat (live_records_of rows (cond b n 0) c) ++ (flat (recorded (padding rows) (n - live_count_of rows (cond b n 0) c) (stopped_at rows (cond b n 0) c)) ++ rest)
-      ≡ flat (recorded (step_of b rows) n c) ++ rest
-  ran_words b n c rest =
-      let p = live_records_of rows (cond b n 0) c in
-      let q = recorded (padding rows) (n - live_count_of rows (cond b n 0) c) (stopped_at rows (cond b n 0) c) in
+  pub ran_words : (request : Request) (c : Cursor) (rest : List ℕ)
+      → flat (live_records_of rows (limit_of request) c)
+      ++ (flat (recorded (padding rows) (length_of request - live_count_of rows (limit_of request) c) (stopped_at rows (limit_of request) c)) ++ rest)
+      ≡ flat (recorded (step_of request rows) (length_of request) c) ++ rest
+  ran_words request c rest =
+      let p = live_records_of rows (limit_of request) c in
+      let q = recorded (padding rows) (length_of request - live_count_of rows (limit_of request) c) (stopped_at rows (limit_of request) c) in
       sym (append_assoc (flat p) (flat q) rest)
-      ∙ ap (λ (ws : List ℕ). ws ++ rest) (sym (flat_append p q) ∙ ap flat (ran_recorded b n c))
+      ∙ ap (λ (ws : List ℕ). ws ++ rest) (sym (flat_append p q) ∙ ap flat (ran_recorded request c))
 
 -- ---- after i of at most n live cycles
 

@@ -1,42 +1,32 @@
 -- `interp::Cursor::start` meets its contract. Assumes nothing.
-use Rattle.interp.specs.Machine.{loaded, start_of}
-use Rattle.interp.proofs.run.Lists.{copied_on, padded}
-use Rattle.std.proofs.Common.{◌<◌, length, replicate, refl, ◌∙◌, inl, inr, add-one, arith}
+use Rattle.std.proofs.Common.{◌≡◌, ℕ, ◌+◌, ◌-◌, Bool, true, false, ltb, List, ◌++◌, length, take, drop, replicate, min, refl, arith, ltb-true, ltb-false, append-nil, take_all}
+use Rattle.std.proofs.lemmas.List.{take-append-le, take-replicate, drop-replicate}
+use lib.Seq.{take-append-add}
+use Rattle.interp.specs.declared.Cursor.{Cursor}
+use Rattle.interp.specs.Machine.{at, loaded, start_of}
 use Rattle.interp.proofs.Cursor.start.Goals as goal
 
-pub loop-i-init : goal.loop-i-init
-loop-i-init c = (omega arith, omega arith, refl)
+-- the front of a list over zeros: all of it and the zeros left, or its first n
+over_zeros : (s : List ℕ) (n kept : ℕ) → kept ≡ min (length s) n → take kept s ++ drop kept (replicate n 0) ≡ take n (s ++ replicate n 0)
+over_zeros s n kept e = go (ltb n (length s)) refl
+  where
+    go : (b : Bool) → ltb n (length s) ≡ b → take kept s ++ drop kept (replicate n 0) ≡ take n (s ++ replicate n 0)
+    go true t =
+        let h = ltb-true n (length s) t in
+        let all : kept ≡ n = omega (arith, h) in
+        let none : n - n ≡ 0 = omega arith in
+        rw (drop-replicate {X = ℕ} kept n 0, all, none, take-append-le n s (replicate n 0) (omega (arith, h))) (append-nil (take n s))
+    go false t =
+        let h = ltb-false n (length s) t in
+        let all : kept ≡ length s = omega (arith, h) in
+        let whole : length s + (n - length s) ≡ n = omega (arith, h) in
+        rw (drop-replicate {X = ℕ} kept n 0, all, take_all (length s) s (omega arith), ← take-replicate {X = ℕ} (n - length s) n 0 (omega arith), ← take-append-add s (replicate n 0) (n - length s), whole) refl
 
-pub offset_bounds-input-i : goal.offset_bounds-input-i
-offset_bounds-input-i c = omega arith
+-- the fresh cursor, if its RAM is loaded
+started : (input ram : List ℕ) → ram ≡ loaded input → ◌≡◌ {A = Cursor} (record { regs = replicate 64 0; ram = ram; micro_pc = at 0; cycles = 0; halted = false; output = 0; next_fetch = at 0 }) (start_of input)
+unfolding start_of
+started input ram e = rw e refl
 
-pub bounds-input-i : goal.bounds-input-i
-bounds-input-i c = c.if-i-input.true
-
-pub offset_bounds-ram-i : goal.offset_bounds-ram-i
-offset_bounds-ram-i c = omega arith
-
-pub bounds-ram-i : goal.bounds-ram-i
-bounds-ram-i c = omega arith
-
-pub overflow_add-i : goal.overflow_add-i
-overflow_add-i c = omega arith
-
-pub loop-i-smaller : goal.loop-i-smaller
-loop-i-smaller c = omega arith
-
-pub loop-i-preserved : goal.loop-i-preserved
-loop-i-preserved c = let at-loop = c.loop-i in
-    let input = c.args.input.now in
-    let lt : at-loop.i < length input = c.if-i-input.true in
-    (omega arith, omega arith, rw (at-loop.invariant.2, add-one) (copied_on (replicate 256 0) input at-loop.i (omega arith) lt))
-
-pub returns-else-i-input : goal.returns-else-i-input
-unfolding start_of loaded
-returns-else-i-input c = let at-loop = c.loop-i in
-    rw (at-loop.invariant.2 ∙ padded c.args.input.now 256 at-loop.i at-loop.invariant.0 at-loop.invariant.1 (inr (c.if-i-input.false)))
-
-pub returns-after-loop-i : goal.returns-after-loop-i
-unfolding start_of loaded
-returns-after-loop-i c = let at-loop = c.loop-i in
-    rw (at-loop.invariant.2 ∙ padded c.args.input.now 256 at-loop.i at-loop.invariant.0 at-loop.invariant.1 (inl c.loop-i-test.false))
+pub returns : goal.returns
+unfolding loaded
+returns c = started c.args.input.now _ (rw c.copy_from_slice.ensures.after (over_zeros c.args.input.now 256 c.min-kept.result c.min-kept.ensures))

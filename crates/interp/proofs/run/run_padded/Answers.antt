@@ -1,5 +1,5 @@
 -- `interp::run_padded` meets its contract. Assumes nothing.
-use Rattle.std.proofs.Common.{◌≡◌, ◌≤◌, sym, refl, ap, ◌∙◌, arith}
+use Rattle.std.proofs.Common.{◌≡◌, ◌≤◌, sym, ap, ◌∙◌, arith}
 use Rattle.interp.specs.Execute.{live_count_of}
 use Rattle.interp.specs.Code.{whole, due_of}
 use Rattle.interp.proofs.arms.Lawful.{row_in}
@@ -37,7 +37,6 @@ returns c =
     let enough : stopped.count ≤ due = omega (arith, c.due_of-count.ensures, c.requires.1.enough _ (most (goal.at.returns c).After-run_live-stopped)) in
     let pad = c.pad_rest.ensures in
     record {
-      outcome = refl;
       live = ran.count;
       count = due-is;
       cursor =
