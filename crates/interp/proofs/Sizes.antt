@@ -3,8 +3,7 @@ use Rattle.std.proofs.Common.{◌≡◌, ℕ, zero, suc, Bool, true, false, cond
 use lib.ListN.{length-replicate}
 use Rattle.interp.specs.declared.Cursor.{Cursor}
 use Rattle.interp.specs.declared.effect.Effect.{Effect}
-use Rattle.interp.specs.declared.effect.Scratch.{Scratch}
-use Rattle.interp.specs.declared.effect.Scratch.TheVariants.{Kept, Holds}
+use Rattle.std.specs.Prelude.{Option, Some, None}
 use Rattle.interp.specs.Machine.{loaded, start_of}
 use Rattle.interp.specs.Cycle.{Step, scratched, regs_after, stores, ram_after, commit, step_at, live, frozen_at, padding, cycle}
 use Rattle.interp.specs.Calls.{end, Call, segment, padded, amount, turn, refusal_of, settled, answer_of}
@@ -13,10 +12,10 @@ use Rattle.interp.specs.Laws.{Sized}
 
 -- ---- a cycle
 
-scratched_size : (x : Scratch) (regs : List ℕ) → length (scratched x regs) ≡ length regs
+scratched_size : (x : Option ℕ) (regs : List ℕ) → length (scratched x regs) ≡ length regs
 unfolding scratched
-scratched_size Kept regs = refl
-scratched_size (Holds v) regs = length-set regs 0 v
+scratched_size None regs = refl
+scratched_size (Some v) regs = length-set regs 0 v
 
 regs_size : (e : Effect) (regs : List ℕ) → length (regs_after e regs) ≡ length regs
 unfolding regs_after

@@ -3,6 +3,7 @@
 use Rattle.std.specs.Prelude.{ℕ, ◌+◌, ◌-◌, ◌*◌, ◌^◌, ◌<◌, ◌≤◌, Bool, true, false, List, ◌++◌, drop}
 use Rattle.expand.specs.declared.RomRow.{RomRow}
 use Rattle.interp.specs.declared.cycle.Core.{Core}
+use Rattle.interp.specs.declared.cycle.Memory.{Memory}
 use Rattle.interp.specs.declared.Cursor.{Cursor}
 use Rattle.interp.specs.declared.effect.Effect.{Effect}
 use Rattle.interp.specs.declared.Request.{Request}
@@ -27,11 +28,11 @@ pub record Sound (e : Effect) : Type 0 where
   pub flags : e.shown.flags < 0x1000
 
 -- a cursor is its numbers and its two arrays
-abbrev pub whole : Core → List ℕ → List ℕ → Cursor
-whole k regs ram =
+abbrev pub whole : Core → Memory → Cursor
+whole k m =
     record {
-      regs = regs;
-      ram = ram;
+      regs = m.regs;
+      ram = m.ram;
       micro_pc = k.micro_pc;
       cycles = k.cycles;
       halted = k.halted;

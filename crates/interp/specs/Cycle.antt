@@ -1,7 +1,7 @@
 -- One cycle (01, "Cursor and live cycle" and "Padding cycle"). An arm says what a row of its kind does, as an `Effect`; the
 -- record and the next cursor are made of it in one place, so that no arm can record one thing and do another. `a` and `b`
 -- are registers rs1 and rs2 of the row, as in 01. Assumes nothing: these are definitions.
-use Rattle.std.specs.Prelude.{ℕ, suc, ◌+◌, ◌/◌, ◌%◌, Bool, true, false, cond, ◌&&◌, ◌||◌, List, length, ◌==◌, slice_set}
+use Rattle.std.specs.Prelude.{ℕ, suc, ◌+◌, ◌/◌, ◌%◌, Bool, true, false, cond, ◌&&◌, ◌||◌, List, length, ◌==◌, slice_set, Option, Some, None}
 use Rattle.expand.specs.declared.MicroPc.{MicroPc}
 use Rattle.expand.specs.declared.RomRow.{RomRow}
 use Rattle.expand.specs.declared.VirtualKind.{VirtualKind}
@@ -10,8 +10,6 @@ use Rattle.interp.specs.declared.effect.Access.{Access}
 use Rattle.interp.specs.declared.Cursor.{Cursor}
 use Rattle.interp.specs.declared.CycleRecord.{CycleRecord}
 use Rattle.interp.specs.declared.effect.Effect.{Effect}
-use Rattle.interp.specs.declared.effect.Scratch.{Scratch}
-use Rattle.interp.specs.declared.effect.Scratch.TheVariants.{Kept, Holds}
 use Rattle.interp.specs.declared.effect.Shown.{Shown}
 use Rattle.interp.specs.declared.effect.Write.{Write}
 use Rattle.interp.specs.Flags as flag
@@ -46,7 +44,7 @@ shows a b out shift flags = record { alu_a = a; alu_b = b; alu_out = out; shift_
 
 -- an effect that neither halts nor leaves a new accumulator
 abbrev pub effect : Write → Access → Shown → MicroPc → Effect
-effect w a s next = record { write = w; access = a; shown = s; scratch = Kept; next_pc = next; halts = false }
+effect w a s next = record { write = w; access = a; shown = s; scratch = None; next_pc = next; halts = false }
 
 -- ---- the arms, each of a row, with the row after it
 
@@ -85,7 +83,7 @@ stage_effect k row next v regs =
     let b = cell regs row.rs2 in
     cond (k == 5)
     (effect (writes row.rd v regs) no_access (shows a b v 0 flag.we) next)
-    (record { write = keeps regs; access = no_access; shown = shows a b v 0 0; scratch = Holds v; next_pc = next; halts = false })
+    (record { write = keeps regs; access = no_access; shown = shows a b v 0 0; scratch = Some v; next_pc = next; halts = false })
 
 -- ShiftStage k: a at stage 0, else the accumulator, shifted by 2^k if bit k of b is set
 unfoldable pub stage_arm : ℕ → RomRow → MicroPc → ℕ → List ℕ → Effect
@@ -183,7 +181,7 @@ system_arm row mp regs =
       write = record { rd = 32; rd_val = cell regs 10; rd_old = cell regs 32 };
       access = no_access;
       shown = shows (cell regs row.rs1) (cell regs row.rs2) (cell regs 10) 0 flag.halted_latch;
-      scratch = Kept;
+      scratch = None;
       next_pc = mp;
       halts = true;
     }
@@ -249,9 +247,9 @@ abbrev pub accumulator : List ℕ → ℕ
 accumulator regs = cell regs 0
 
 -- after a cycle: a write that no record logs
-unfoldable pub scratched : Scratch → List ℕ → List ℕ
-scratched Kept regs = regs
-scratched (Holds v) regs = slice_set regs 0 v
+unfoldable pub scratched : Option ℕ → List ℕ → List ℕ
+scratched None regs = regs
+scratched (Some v) regs = slice_set regs 0 v
 
 -- ---- the cycle
 

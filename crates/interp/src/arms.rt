@@ -4,9 +4,7 @@ ghost use Rattle.interp.specs.Values.{branch_target};
 ghost use Rattle.interp.specs.Cycle.{sub_flag, alu_flags, shift_out, alu_arm, stage_effect, stage_arm, load_flag, load_flags, load_arm, store_arm, branch_flags, branch_arm, upper_arm, jump_target, jump_arm, system_arm, padding_arm};
 ghost use Rattle.interp.specs.Code.{InRange};
 
-use crate::effect::{
-    Access, Effect, Scratch, Write, keeps_cell, no_access, plain, showing, writes_to,
-};
+use crate::effect::{Access, Effect, Write, keeps_cell, no_access, plain, showing, writes_to};
 use crate::{Cursor, CycleRecord, values};
 use expand::{MicroPc, RomRow};
 
@@ -91,7 +89,7 @@ fn stage_effect(
         write: keeps_cell(regs),
         access: no_access(),
         shown: showing(a, b, v, 0, 0),
-        scratch: Scratch::Holds(v),
+        scratch: Some(v),
         next_pc: next,
         halts: false,
     }
@@ -225,7 +223,7 @@ pub(crate) fn branch_arm(
     let a = regs[rs1];
     let b = regs[rs2];
     let taken = values::branch_taken(row.funct3, a, b);
-    let difference = values::wrapping_sub(a, b);
+    let difference = a.wrapping_sub(b);
     let shown = showing(a, b, difference, 0, branch_flags(taken));
     let to = branch_next(taken, mp, row.imm, count, next);
     plain(keeps_cell(regs), no_access(), shown, to)
@@ -303,7 +301,7 @@ pub(crate) fn system_arm(row: RomRow, mp: MicroPc, regs: &[u64; Cursor::REGS]) -
         write: write,
         access: no_access(),
         shown: shown,
-        scratch: Scratch::Kept,
+        scratch: None,
         next_pc: mp,
         halts: true,
     }

@@ -8,11 +8,12 @@ use crate::arms::{
     alu_arm, branch_arm, jump_arm, load_arm, padding_arm, stage_arm, store_arm, system_arm,
     upper_arm,
 };
-use crate::effect::{Effect, Scratch};
-use crate::{Cursor, CycleRecord};
-use expand::{MicroPc, RomRow, VirtualKind};
+use crate::effect::Effect;
+use crate::{Cursor, CycleRecord, RECORD_WORDS};
+use expand::{MicroPc, RomRow, VirtualKind, Word};
 
-// The numbers of a cursor. The loops take them by value and the arrays lent, so that no cycle copies a cursor.
+// A cursor in two halves: the loops take its numbers by value and its arrays lent, so that no cycle copies a cursor.
+// The numbers.
 #[derive(Clone, Copy)]
 pub(crate) struct Core {
     pub(crate) micro_pc: MicroPc,
@@ -22,23 +23,68 @@ pub(crate) struct Core {
     pub(crate) next_fetch: MicroPc,
 }
 
+// The arrays.
+#[derive(Clone, Copy)]
+pub(crate) struct Memory {
+    pub(crate) regs: [Word; Cursor::REGS],
+    pub(crate) ram: [Word; Cursor::RAM_WORDS],
+}
+
+impl Memory {
+    // The accumulator of a shift lies in cell 0.
+    fn accumulator(&self) -> u64
+        ensures { result ≡ accumulator self.now.regs }
+    {
+        self.regs[0]
+    }
+
+    // Leaves a new accumulator there.
+    #[tactic(auto, unfolding(crate::specs::Cycle::scratched))]
+    fn hold(&mut self, scratch: Option<u64>)
+        ensures regs { self.new.regs ≡ scratched scratch self.old.regs }
+        ensures ram { self.new.ram ≡ self.old.ram }
+    {
+        if let Some(v) = scratch {
+            self.regs[0] = v;
+        }
+    }
+
+    // Writes the cell of an effect.
+    #[tactic(auto, unfolding(crate::specs::Cycle::regs_after))]
+    fn write(&mut self, e: Effect)
+        requires { Sound e }
+        ensures regs { self.new.regs ≡ regs_after e self.old.regs }
+        ensures ram { self.new.ram ≡ self.old.ram }
+    {
+        let rd = e.write.rd;
+        self.regs[rd] = e.write.rd_val;
+    }
+
+    // Stores ram_new, if is_store is set.
+    #[tactic(auto, unfolding(crate::specs::Cycle::ram_after))]
+    fn store(&mut self, e: Effect)
+        requires { Sound e }
+        ensures regs { self.new.regs ≡ self.old.regs }
+        ensures ram { self.new.ram ≡ ram_after e self.old.ram }
+    {
+        if e.shown.flags / CycleRecord::IS_STORE % 2 == 1 {
+            let addr = e.access.ram_addr;
+            self.ram[addr] = e.access.ram_new;
+        }
+    }
+}
+
 // The record of an effect at row `at`.
-fn record_of(
-    row: RomRow,
-    at: MicroPc,
-    e: Effect,
-    regs: &[u64; Cursor::REGS],
-    ram: &[u64; Cursor::RAM_WORDS],
-) -> CycleRecord
+fn record_of(row: RomRow, at: MicroPc, e: Effect, memory: &Memory) -> CycleRecord
     requires { InRange row × Sound e }
-    ensures { result ≡ record_of row at e regs.now ram.now }
+    ensures { result ≡ record_of row at e memory.now.regs memory.now.ram }
 {
     let rs1 = row.rs1;
     let rs2 = row.rs2;
     let addr = e.access.ram_addr;
-    let a = regs[rs1];
-    let b = regs[rs2];
-    let word = ram[addr];
+    let a = memory.regs[rs1];
+    let b = memory.regs[rs2];
+    let word = memory.ram[addr];
     let next = e.next_pc;
     CycleRecord {
         micro_pc: at,
@@ -73,59 +119,32 @@ fn last_word(offset: u8, width: u8, flags: u64) -> u64
     o + 0x100 * w + 0x1_0000 * flags
 }
 
-// The 17 words of a record, into a part of 17 words.
-fn put(r: CycleRecord, out: &mut [u64])
-    requires { (length out.old ≡ 17) × (r.flags < 0x1000) }
+// The words of a record.
+#[tactic(auto, unfolding(crate::specs::Machine::words))]
+fn put(r: CycleRecord, out: &mut [u64; RECORD_WORDS])
+    requires { r.flags < 0x1000 }
     ensures { out.new ≡ words r }
 {
     let last = last_word(r.byte_offset, r.store_width, r.flags);
-    out[0] = r.micro_pc.0 as u64;
-    out[1] = r.rs1_val;
-    out[2] = r.rs2_val;
-    out[3] = r.rd_val;
-    out[4] = r.rd_old;
-    out[5] = r.rd as u64;
-    out[6] = r.ram_addr as u64;
-    out[7] = r.ram_word;
-    out[8] = r.ram_old;
-    out[9] = r.ram_new;
-    out[10] = r.store_src;
-    out[11] = r.next_pc.0 as u64;
-    out[12] = r.alu_a;
-    out[13] = r.alu_b;
-    out[14] = r.alu_out;
-    out[15] = r.shift_out;
-    out[16] = last;
-}
-
-// The accumulator of a shift lies in cell 0.
-fn accumulator(regs: &[u64; Cursor::REGS]) -> u64
-    ensures { result ≡ accumulator regs.now }
-{
-    regs[0]
-}
-
-// Leaves the accumulator there.
-fn hold(scratch: Scratch, regs: &mut [u64; Cursor::REGS])
-    ensures { regs.new ≡ scratched scratch regs.old }
-{
-    match scratch {
-        Scratch::Kept => {}
-        Scratch::Holds(v) => {
-            regs[0] = v;
-        }
-    }
-}
-
-// Stores ram_new, if is_store is set.
-fn store(e: Effect, ram: &mut [u64; Cursor::RAM_WORDS])
-    requires { Sound e }
-    ensures { ram.new ≡ ram_after e ram.old }
-{
-    if e.shown.flags / CycleRecord::IS_STORE % 2 == 1 {
-        let addr = e.access.ram_addr;
-        ram[addr] = e.access.ram_new;
-    }
+    *out = [
+        r.micro_pc.0 as u64,
+        r.rs1_val,
+        r.rs2_val,
+        r.rd_val,
+        r.rd_old,
+        r.rd as u64,
+        r.ram_addr as u64,
+        r.ram_word,
+        r.ram_old,
+        r.ram_new,
+        r.store_src,
+        r.next_pc.0 as u64,
+        r.alu_a,
+        r.alu_b,
+        r.alu_out,
+        r.shift_out,
+        last,
+    ];
 }
 
 // Writes the record of an effect at row `at`, and then does what it says to registers and RAM.
@@ -133,19 +152,17 @@ fn put_effect(
     row: RomRow,
     at: MicroPc,
     e: Effect,
-    regs: &mut [u64; Cursor::REGS],
-    ram: &mut [u64; Cursor::RAM_WORDS],
-    out: &mut [u64],
+    memory: &mut Memory,
+    out: &mut [u64; RECORD_WORDS],
 )
-    requires { InRange row × (Sound e × (length out.old ≡ 17)) }
-    ensures regs { regs.new ≡ regs_after e regs.old }
-    ensures ram { ram.new ≡ ram_after e ram.old }
-    ensures shown { out.new ≡ words (record_of row at e regs.old ram.old) }
+    requires { InRange row × Sound e }
+    ensures regs { memory.new.regs ≡ regs_after e memory.old.regs }
+    ensures ram { memory.new.ram ≡ ram_after e memory.old.ram }
+    ensures shown { out.new ≡ words (record_of row at e memory.old.regs memory.old.ram) }
 {
-    let record = record_of(row, at, e, regs, ram);
-    let rd = e.write.rd;
-    regs[rd] = e.write.rd_val;
-    store(e, ram);
+    let record = record_of(row, at, e, memory);
+    memory.write(e);
+    memory.store(e);
     put(record, out);
 }
 
@@ -160,17 +177,15 @@ fn commit(
     row: RomRow,
     core: Core,
     e: Effect,
-    regs: &mut [u64; Cursor::REGS],
-    ram: &mut [u64; Cursor::RAM_WORDS],
-    out: &mut [u64],
+    memory: &mut Memory,
+    out: &mut [u64; RECORD_WORDS],
 ) -> Core
-    requires { InRange row × (Sound e × ((core.cycles < 2 ^ 62) × (length out.old ≡ 17))) }
-    ensures cursor { whole result regs.new ram.new ≡ (commit row (whole core regs.old ram.old) e).after }
-    ensures shown { out.new ≡ words (commit row (whole core regs.old ram.old) e).shown }
+    requires { InRange row × (Sound e × (core.cycles < 2 ^ 62)) }
+    ensures cursor { whole result memory.new ≡ (commit row (whole core memory.old) e).after }
+    ensures shown { out.new ≡ words (commit row (whole core memory.old) e).shown }
 {
-    put_effect(row, core.micro_pc, e, regs, ram, out);
-    let scratch = e.scratch;
-    hold(scratch, regs);
+    put_effect(row, core.micro_pc, e, memory, out);
+    memory.hold(e.scratch);
     let next = e.next_pc;
     Core {
         micro_pc: next,
@@ -200,32 +215,49 @@ pub(crate) fn live_cycle(
     row: RomRow,
     count: usize,
     core: Core,
-    regs: &mut [u64; Cursor::REGS],
-    ram: &mut [u64; Cursor::RAM_WORDS],
-    out: &mut [u64],
+    memory: &mut Memory,
+    out: &mut [u64; RECORD_WORDS],
 ) -> Core
-    requires { InRange row × ((core.cycles < 2 ^ 62) × ((core.micro_pc.0 < count) × (length out.old ≡ 17))) }
-    ensures cursor { whole result regs.new ram.new ≡ (step_at row count (whole core regs.old ram.old)).after }
-    ensures shown { out.new ≡ words (step_at row count (whole core regs.old ram.old)).shown }
+    requires { InRange row × ((core.cycles < 2 ^ 62) × (core.micro_pc.0 < count)) }
+    ensures cursor { whole result memory.new ≡ (step_at row count (whole core memory.old)).after }
+    ensures shown { out.new ≡ words (step_at row count (whole core memory.old)).shown }
 {
     let mp = core.micro_pc;
     let next = next_row(mp, count);
     let kind = row.kind;
     match kind {
-        VirtualKind::Alu => commit(row, core, alu_arm(row, next, regs), regs, ram, out),
+        VirtualKind::Alu => {
+            let e = alu_arm(row, next, &memory.regs);
+            commit(row, core, e, memory, out)
+        }
         VirtualKind::ShiftStage { stage } => {
-            let e = stage_arm(stage, row, next, accumulator(regs), regs);
-            commit(row, core, e, regs, ram, out)
+            let e = stage_arm(stage, row, next, memory.accumulator(), &memory.regs);
+            commit(row, core, e, memory, out)
         }
-        VirtualKind::Load => commit(row, core, load_arm(row, next, regs, ram), regs, ram, out),
-        VirtualKind::Store => commit(row, core, store_arm(row, next, regs, ram), regs, ram, out),
+        VirtualKind::Load => {
+            let e = load_arm(row, next, &memory.regs, &memory.ram);
+            commit(row, core, e, memory, out)
+        }
+        VirtualKind::Store => {
+            let e = store_arm(row, next, &memory.regs, &memory.ram);
+            commit(row, core, e, memory, out)
+        }
         VirtualKind::Branch => {
-            let e = branch_arm(row, mp, count, next, regs);
-            commit(row, core, e, regs, ram, out)
+            let e = branch_arm(row, mp, count, next, &memory.regs);
+            commit(row, core, e, memory, out)
         }
-        VirtualKind::Upper => commit(row, core, upper_arm(row, mp, next, regs), regs, ram, out),
-        VirtualKind::Jump => commit(row, core, jump_arm(row, mp, count, regs), regs, ram, out),
-        VirtualKind::System => commit(row, core, system_arm(row, mp, regs), regs, ram, out),
+        VirtualKind::Upper => {
+            let e = upper_arm(row, mp, next, &memory.regs);
+            commit(row, core, e, memory, out)
+        }
+        VirtualKind::Jump => {
+            let e = jump_arm(row, mp, count, &memory.regs);
+            commit(row, core, e, memory, out)
+        }
+        VirtualKind::System => {
+            let e = system_arm(row, mp, &memory.regs);
+            commit(row, core, e, memory, out)
+        }
     }
 }
 
@@ -233,14 +265,13 @@ pub(crate) fn live_cycle(
 pub(crate) fn padding_cycle(
     row: RomRow,
     core: Core,
-    regs: &mut [u64; Cursor::REGS],
-    ram: &mut [u64; Cursor::RAM_WORDS],
-    out: &mut [u64],
+    memory: &mut Memory,
+    out: &mut [u64; RECORD_WORDS],
 )
-    requires { InRange row × (length out.old ≡ 17) }
-    ensures cursor { whole core regs.new ram.new ≡ (frozen_at row (whole core regs.old ram.old)).after }
-    ensures shown { out.new ≡ words (frozen_at row (whole core regs.old ram.old)).shown }
+    requires { InRange row }
+    ensures cursor { whole core memory.new ≡ (frozen_at row (whole core memory.old)).after }
+    ensures shown { out.new ≡ words (frozen_at row (whole core memory.old)).shown }
 {
-    let e = padding_arm(row, core.next_fetch, core.output, regs);
-    put_effect(row, core.next_fetch, e, regs, ram, out);
+    let e = padding_arm(row, core.next_fetch, core.output, &memory.regs);
+    put_effect(row, core.next_fetch, e, memory, out);
 }

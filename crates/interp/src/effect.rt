@@ -34,20 +34,14 @@ pub(crate) struct Shown {
     pub(crate) flags: u64,
 }
 
-// The accumulator of the shift stages after a cycle.
-#[derive(Clone, Copy)]
-pub(crate) enum Scratch {
-    Kept,
-    Holds(u64),
-}
-
 // What an arm says that its row does.
 #[derive(Clone, Copy)]
 pub(crate) struct Effect {
     pub(crate) write: Write,
     pub(crate) access: Access,
     pub(crate) shown: Shown,
-    pub(crate) scratch: Scratch,
+    // The accumulator of the shift stages after the cycle, where that is a new one.
+    pub(crate) scratch: Option<u64>,
     pub(crate) next_pc: MicroPc,
     pub(crate) halts: bool,
 }
@@ -117,7 +111,7 @@ pub(crate) fn plain(write: Write, access: Access, shown: Shown, next: MicroPc) -
         write: write,
         access: access,
         shown: shown,
-        scratch: Scratch::Kept,
+        scratch: None,
         next_pc: next,
         halts: false,
     }

@@ -6,7 +6,7 @@ ghost use Rattle.interp.specs.Calls.{recorded, end};
 ghost use Rattle.interp.specs.Execute.{live_count_of, stopped_at, live_records_of, next_power_of_two};
 ghost use Rattle.interp.specs.Code.{InRange, whole, core_of, due_of, Ready, Room, padded_to};
 
-use crate::cycle::{Core, live_cycle, padding_cycle};
+use crate::cycle::{Core, Memory, live_cycle, padding_cycle};
 use crate::{Cursor, Execution, RECORD_WORDS};
 use expand::{MicroPc, RomRow};
 
@@ -61,15 +61,14 @@ fn run_live(
     rows: &[u64],
     start: Core,
     limit: usize,
-    regs: &mut [u64; Cursor::REGS],
-    ram: &mut [u64; Cursor::RAM_WORDS],
+    memory: &mut Memory,
     records: &mut [u64],
 ) -> Stopped
     requires { Ready (length rows.now) start limit (length records.old) }
-    ensures count { result.count ≡ live_count_of rows.now limit (whole start regs.old ram.old) }
+    ensures count { result.count ≡ live_count_of rows.now limit (whole start memory.old) }
     ensures row { result.row ≡ row_at rows.now result.core.next_fetch.0 }
-    ensures cursor { whole result.core regs.new ram.new ≡ stopped_at rows.now limit (whole start regs.old ram.old) }
-    ensures records { records.new ≡ flat (live_records_of rows.now limit (whole start regs.old ram.old)) ++ drop (17 * result.count) records.old }
+    ensures cursor { whole result.core memory.new ≡ stopped_at rows.now limit (whole start memory.old) }
+    ensures records { records.new ≡ flat (live_records_of rows.now limit (whole start memory.old)) ++ drop (17 * result.count) records.old }
 {
     let mut core = afresh(start);
     let mut i: usize = 0;
@@ -86,8 +85,12 @@ fn run_live(
             };
         }
         let base = RECORD_WORDS * i;
-        let record = &mut records[base..base + RECORD_WORDS];
-        let next = live_cycle(row, rows.len(), core, regs, ram, record);
+        let (_, rest) = records.split_at_mut(base);
+        let (part, _) = rest.split_at_mut(RECORD_WORDS);
+        let Some(record) = part.as_mut_array() else {
+            unreachable!()
+        };
+        let next = live_cycle(row, rows.len(), core, memory, record);
         core = afresh(next);
         at = MicroPc(core.next_fetch.0);
         i += 1;
@@ -95,51 +98,34 @@ fn run_live(
 }
 
 // n padding cycles of the row at next_fetch.
-fn run_padding(
-    row: RomRow,
-    core: Core,
-    n: usize,
-    regs: &mut [u64; Cursor::REGS],
-    ram: &mut [u64; Cursor::RAM_WORDS],
-    records: &mut [u64],
-)
+fn run_padding(row: RomRow, core: Core, n: usize, memory: &mut Memory, records: &mut [u64])
     requires { InRange row × (17 * n ≤ length records.old) }
-    ensures cursor { whole core regs.new ram.new ≡ end (frozen_at row) n (whole core regs.old ram.old) }
-    ensures records { records.new ≡ flat (recorded (frozen_at row) n (whole core regs.old ram.old)) ++ drop (17 * n) records.old }
+    ensures cursor { whole core memory.new ≡ end (frozen_at row) n (whole core memory.old) }
+    ensures records { records.new ≡ flat (recorded (frozen_at row) n (whole core memory.old)) ++ drop (17 * n) records.old }
 {
-    let mut i: usize = 0;
-    while i < n {
+    for i in 0..n {
         let base = RECORD_WORDS * i;
-        padding_cycle(
-            row,
-            core,
-            regs,
-            ram,
-            &mut records[base..base + RECORD_WORDS],
-        );
-        i += 1;
+        let (_, rest) = records.split_at_mut(base);
+        let (part, _) = rest.split_at_mut(RECORD_WORDS);
+        let Some(record) = part.as_mut_array() else {
+            unreachable!()
+        };
+        padding_cycle(row, core, memory, record);
     }
 }
 
 // Padding cycles behind the live ones, up to `due` records.
-fn pad_rest(
-    stopped: Stopped,
-    due: usize,
-    regs: &mut [u64; Cursor::REGS],
-    ram: &mut [u64; Cursor::RAM_WORDS],
-    records: &mut [u64],
-)
+fn pad_rest(stopped: Stopped, due: usize, memory: &mut Memory, records: &mut [u64])
     requires { InRange stopped.row × ((stopped.count ≤ due) × (17 * due ≤ length records.old)) }
-    ensures cursor { whole stopped.core regs.new ram.new ≡ end (frozen_at stopped.row) (due - stopped.count) (whole stopped.core regs.old ram.old) }
-    ensures records { records.new ≡ take (17 * stopped.count) records.old ++ (flat (recorded (frozen_at stopped.row) (due - stopped.count) (whole stopped.core regs.old ram.old)) ++ drop (17 * due) records.old) }
+    ensures cursor { whole stopped.core memory.new ≡ end (frozen_at stopped.row) (due - stopped.count) (whole stopped.core memory.old) }
+    ensures records { records.new ≡ take (17 * stopped.count) records.old ++ (flat (recorded (frozen_at stopped.row) (due - stopped.count) (whole stopped.core memory.old)) ++ drop (17 * due) records.old) }
 {
     let base = RECORD_WORDS * stopped.count;
     run_padding(
         stopped.row,
         stopped.core,
         due - stopped.count,
-        regs,
-        ram,
+        memory,
         &mut records[base..],
     );
 }
@@ -149,11 +135,7 @@ pub(crate) fn next_power_of_two(n: u64) -> u64
     requires { n ≤ 2 ^ 62 }
     ensures { result ≡ next_power_of_two n }
 {
-    let mut p: u64 = 1;
-    while p < n {
-        p = 2 * p;
-    }
-    p
+    n.next_power_of_two()
 }
 
 // How many records a call makes that had so many live cycles.
@@ -179,9 +161,11 @@ fn core_of(c: Cursor) -> Core
     }
 }
 
-fn whole_of(k: Core, regs: [u64; Cursor::REGS], ram: [u64; Cursor::RAM_WORDS]) -> Cursor
-    ensures { result ≡ whole k regs ram }
+fn whole_of(k: Core, memory: Memory) -> Cursor
+    ensures { result ≡ whole k memory }
 {
+    let regs = memory.regs;
+    let ram = memory.ram;
     Cursor {
         regs: regs,
         ram: ram,
@@ -209,13 +193,17 @@ pub(crate) fn run_padded(
     ensures cursor { result.cursor ≡ (padded_to due rows.now limit cursor records.old).cursor }
     ensures records { records.new ≡ (padded_to due rows.now limit cursor records.old).buffer }
 {
-    let mut regs = cursor.regs;
-    let mut ram = cursor.ram;
+    let regs = cursor.regs;
+    let ram = cursor.ram;
+    let mut memory = Memory {
+        regs: regs,
+        ram: ram,
+    };
     let start = core_of(cursor);
-    let stopped = run_live(rows, start, limit, &mut regs, &mut ram, records);
+    let stopped = run_live(rows, start, limit, &mut memory, records);
     let count = due_of(due, stopped.count);
-    pad_rest(stopped, count, &mut regs, &mut ram, records);
-    let after = whole_of(stopped.core, regs, ram);
+    pad_rest(stopped, count, &mut memory, records);
+    let after = whole_of(stopped.core, memory);
     Execution {
         live_count: stopped.count as u64,
         record_count: count as u64,

@@ -7,13 +7,6 @@ ghost use Rattle.interp.specs.Readings.{Signed};
 use crate::Cursor;
 use expand::MicroPc;
 
-// The contract of std's function gives a from the answer; this one gives the answer.
-pub(crate) fn wrapping_sub(a: u64, b: u64) -> u64
-    ensures { result ≡ minus a b }
-{
-    std::num::wrapping_sub_u64(a, b)
-}
-
 // A shift amount is taken modulo 64.
 fn shift_left(x: u64, k: u64) -> u64
     ensures { result ≡ left x (k % 64) }
@@ -31,11 +24,7 @@ fn shift_right(x: u64, k: u64) -> u64
 fn shift_right_signed(x: u64, k: u64) -> u64
     ensures { result ≡ signed_right x (k % 64) }
 {
-    if x < 0x8000_0000_0000_0000 {
-        x >> (k & 63)
-    } else {
-        !(!x >> (k & 63))
-    }
+    (x.cast_signed() >> (k & 63)).cast_unsigned()
 }
 
 fn shift_by(funct3: u32, raw: u32, x: u64, k: u64) -> u64
@@ -58,8 +47,7 @@ fn shift_by(funct3: u32, raw: u32, x: u64, k: u64) -> u64
 fn signed_less(a: u64, b: u64) -> bool
     ensures { result ≡ less a b }
 {
-    std::num::wrapping_add_u64(a, 0x8000_0000_0000_0000)
-        < std::num::wrapping_add_u64(b, 0x8000_0000_0000_0000)
+    a.cast_signed() < b.cast_signed()
 }
 
 fn bool_word(t: bool) -> u64
@@ -79,9 +67,9 @@ fn add_or_sub(raw: u32, a: u64, b: u64) -> u64
     ensures { result ≡ sum raw a b }
 {
     if raw & 0x7f == 0x33 && raw >> 25 == 0x20 {
-        wrapping_sub(a, b)
+        a.wrapping_sub(b)
     } else {
-        std::num::wrapping_add_u64(a, b)
+        a.wrapping_add(b)
     }
 }
 
@@ -107,7 +95,7 @@ pub(crate) fn upper_value(raw: u32, imm: u64, mp: MicroPc) -> u64
     ensures { result ≡ upper_value raw imm mp }
 {
     if raw & 0x7f == 0x17 {
-        std::num::wrapping_add_u64(imm, (mp.0 as u64) << 2)
+        imm.wrapping_add((mp.0 as u64) << 2)
     } else {
         imm
     }
@@ -135,7 +123,7 @@ pub(crate) fn stage_value(stage: usize, funct3: u32, raw: u32, acc: u64, b: u64)
 pub(crate) fn address_of(a: u64, imm: u64) -> u64
     ensures { result ≡ plus a imm }
 {
-    std::num::wrapping_add_u64(a, imm)
+    a.wrapping_add(imm)
 }
 
 pub(crate) fn ram_addr_of(address: u64) -> usize
@@ -229,10 +217,9 @@ fn quarter_on(mp: usize, imm: u64) -> usize
     ensures { result ≡ quarter_on mp imm }
 {
     if imm < 0x8000_0000_0000_0000 {
-        std::num::wrapping_add_u64(mp as u64, imm / 4) as usize
+        (mp as u64).wrapping_add(imm / 4) as usize
     } else {
-        let down = ((u64::MAX - imm + 1) / 4) as usize;
-        if down <= mp { mp - down } else { 0 }
+        mp.saturating_sub((imm.wrapping_neg() / 4) as usize)
     }
 }
 
@@ -255,7 +242,7 @@ pub(crate) fn branch_target(mp: MicroPc, imm: u64, rows: usize) -> MicroPc
 pub(crate) fn jalr_target(a: u64, imm: u64, rows: usize) -> MicroPc
     ensures { result ≡ jalr_target a imm rows }
 {
-    let to = std::num::wrapping_add_u64(a, imm) / 4;
+    let to = a.wrapping_add(imm) / 4;
     MicroPc(to as usize % row_count(rows))
 }
 
@@ -263,7 +250,7 @@ pub(crate) fn jalr_target(a: u64, imm: u64, rows: usize) -> MicroPc
 pub(crate) fn link_value(mp: MicroPc) -> u64
     ensures { result ≡ link_value mp }
 {
-    std::num::wrapping_add_u64((mp.0 as u64) << 2, 4)
+    ((mp.0 as u64) << 2).wrapping_add(4)
 }
 
 // The forms that read a word as a signed number, and the six stages as one shift (specs/Readings.antt).

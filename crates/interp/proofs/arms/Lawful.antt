@@ -8,7 +8,7 @@ use Rattle.expand.specs.declared.VirtualKind.{VirtualKind}
 use Rattle.expand.specs.declared.VirtualKind.TheVariants.{Alu, ShiftStage, Load, Store, Branch, Upper, Jump, System}
 use Rattle.expand.proofs.Laws.{laws}
 use Rattle.interp.specs.declared.effect.Effect.{Effect}
-use Rattle.interp.specs.declared.effect.Scratch.{Scratch}
+use Rattle.std.specs.Prelude.{Option}
 use Rattle.interp.specs.declared.effect.Shown.{Shown}
 use Rattle.interp.specs.declared.effect.Write.{Write}
 use Rattle.interp.specs.Values.{branch_taken}
@@ -49,7 +49,7 @@ next_of true p q = p
 next_of false p q = q
 
 -- an arm without an access to RAM owes its cell, its flags and its next row
-no_access_lem : {count : ℕ} {w : Write} {s : Shown} {x : Scratch} {next : MicroPc} {h : Bool}
+no_access_lem : {count : ℕ} {w : Write} {s : Shown} {x : Option ℕ} {next : MicroPc} {h : Bool}
     → w.rd < 64 → 0 < w.rd → s.flags < 0x1000 → next.0 < count
     → Lawful count (record { write = w; access = no_access; shown = s; scratch = x; next_pc = next; halts = h })
 no_access_lem p z q r =

@@ -5,8 +5,7 @@ use Rattle.expand.proofs.Laws.{laws}
 use Rattle.interp.specs.declared.Cursor.{Cursor}
 use Rattle.interp.specs.declared.CycleRecord.{CycleRecord}
 use Rattle.interp.specs.declared.effect.Effect.{Effect}
-use Rattle.interp.specs.declared.effect.Scratch.{Scratch}
-use Rattle.interp.specs.declared.effect.Scratch.TheVariants.{Kept, Holds}
+use Rattle.std.specs.Prelude.{Option, Some, None}
 use Rattle.interp.specs.Machine.{row_at, cell, words}
 use Rattle.interp.specs.Cycle.{accumulator, padding_arm, record_of, scratched, regs_after, stores, ram_after, Step, commit, step_at, live, frozen_at, padding, cycle}
 use Rattle.interp.specs.Replay.{word, stored}
@@ -43,11 +42,11 @@ pub record Honest (rows : List ℕ) (c : Cursor) (r : List ℕ) (c' : Cursor) : 
   pub fit : Fit rows c'
 
 -- the accumulator is not seen past cell 0
-past_scratch : (x : Scratch) (regs : List ℕ) → drop 1 (scratched x regs) ≡ drop 1 regs
+past_scratch : (x : Option ℕ) (regs : List ℕ) → drop 1 (scratched x regs) ≡ drop 1 regs
 unfolding scratched
-past_scratch Kept regs = refl
-past_scratch (Holds v) [] = refl
-past_scratch (Holds v) (x ∷ regs) = refl
+past_scratch None regs = refl
+past_scratch (Some v) [] = refl
+past_scratch (Some v) (x ∷ regs) = refl
 
 -- a cycle at row mp that does what a lawful effect says is honest
 effect_honest : (rows : List ℕ) (mp : MicroPc) (e : Effect) (c c' : Cursor) → mp.0 ≡ c.next_fetch.0 → mp.0 < length rows

@@ -6,6 +6,6 @@ use Rattle.interp.proofs.cycle.commit.Goals as goal
 pub returns : goal.returns
 unfolding commit
 returns c = let done = c.put_effect.ensures in record {
-  cursor = simp (c.output_after.ensures, c.hold.ensures, done.regs, done.ram, add-one);
+  cursor = simp (c.output_after.ensures, c.hold.ensures.regs, c.hold.ensures.ram, done.regs, done.ram, add-one);
   shown = done.shown;
 }

@@ -1,12 +1,12 @@
 -- `interp::live_cycle` meets its contract. Assumes nothing.
-use Rattle.std.proofs.Common.{◌≡◌, ℕ, ◌^◌, ◌<◌, List, length, refl, ◌∙◌}
+use Rattle.std.proofs.Common.{◌≡◌, ℕ, ◌^◌, ◌<◌, List, refl, ◌∙◌}
 use Rattle.expand.specs.declared.RomRow.{RomRow}
 use Rattle.interp.specs.declared.cycle.Core.{Core}
 use Rattle.interp.specs.declared.effect.Effect.{Effect}
 use Rattle.interp.specs.Cycle.{accumulator, arm_of, step_at}
 use Rattle.interp.specs.Code.{InRange, Sound}
 use Rattle.interp.proofs.arms.Lawful.{arm_lawful}
-use Rattle.interp.proofs.cycle.live_cycle.Goals.{After-alu_arm, After-branch_arm-e, After-jump_arm, After-load_arm, After-stage_arm-e, After-store_arm, After-system_arm, After-upper_arm}
+use Rattle.interp.proofs.cycle.live_cycle.Goals.{After-alu_arm-e, After-branch_arm-e, After-jump_arm-e, After-load_arm-e, After-stage_arm-e, After-store_arm-e, After-system_arm-e, After-upper_arm-e}
 use Rattle.interp.proofs.cycle.live_cycle.Goals as goal
 
 -- the definition's effect of the row
@@ -14,73 +14,73 @@ abbrev the_effect : RomRow → Core → ℕ → List ℕ → List ℕ → Effect
 the_effect row core count regs ram = arm_of row.kind row core.micro_pc count (accumulator regs) regs ram
 
 -- it is sound, and so the cycle may end with it
-may_commit : (row : RomRow) (core : Core) (count : ℕ) (regs ram out : List ℕ) (e : Effect) → e ≡ the_effect row core count regs ram
-    → InRange row × ((core.cycles < 2 ^ 62) × ((core.micro_pc.0 < count) × (length out ≡ 17)))
-    → InRange row × (Sound e × ((core.cycles < 2 ^ 62) × (length out ≡ 17)))
-may_commit row core count regs ram out e h r =
-    let lawful = arm_lawful row core.micro_pc count regs r.0.rd r.1.1.0 row.kind (accumulator regs) ram in
-    (r.0, (rw h lawful.sound, (r.1.0, r.1.1.1)))
+may_commit : (row : RomRow) (core : Core) (count : ℕ) (regs ram : List ℕ) (e : Effect) → e ≡ the_effect row core count regs ram
+    → InRange row × ((core.cycles < 2 ^ 62) × (core.micro_pc.0 < count))
+    → InRange row × (Sound e × (core.cycles < 2 ^ 62))
+may_commit row core count regs ram e h r =
+    let lawful = arm_lawful row core.micro_pc count regs r.0.rd r.1.1 row.kind (accumulator regs) ram in
+    (r.0, (rw h lawful.sound, r.1.0))
 
 -- what each arm answers is that effect
-alu_is : (c : After-alu_arm) → c.alu_arm.result ≡ the_effect c.args.row c.args.core c.args.count c.args.regs.now c.args.ram.now
+alu_is : (c : After-alu_arm-e) → c.alu_arm-e.result ≡ the_effect c.args.row c.args.core c.args.count c.args.memory.now.regs c.args.memory.now.ram
 unfolding arm_of
-alu_is c = simp (c.in-Alu.is, c.alu_arm.ensures, c.next_row-next.ensures)
+alu_is c = simp (c.in-Alu.is, c.alu_arm-e.ensures, c.next_row-next.ensures)
 
-stage_is : (c : After-stage_arm-e) → c.stage_arm-e.result ≡ the_effect c.args.row c.args.core c.args.count c.args.regs.now c.args.ram.now
+stage_is : (c : After-stage_arm-e) → c.stage_arm-e.result ≡ the_effect c.args.row c.args.core c.args.count c.args.memory.now.regs c.args.memory.now.ram
 unfolding arm_of
 stage_is c = simp (c.in-ShiftStage.is, c.stage_arm-e.ensures, c.accumulator.ensures, c.next_row-next.ensures)
 
-load_is : (c : After-load_arm) → c.load_arm.result ≡ the_effect c.args.row c.args.core c.args.count c.args.regs.now c.args.ram.now
+load_is : (c : After-load_arm-e) → c.load_arm-e.result ≡ the_effect c.args.row c.args.core c.args.count c.args.memory.now.regs c.args.memory.now.ram
 unfolding arm_of
-load_is c = simp (c.in-Load.is, c.load_arm.ensures, c.next_row-next.ensures)
+load_is c = simp (c.in-Load.is, c.load_arm-e.ensures, c.next_row-next.ensures)
 
-store_is : (c : After-store_arm) → c.store_arm.result ≡ the_effect c.args.row c.args.core c.args.count c.args.regs.now c.args.ram.now
+store_is : (c : After-store_arm-e) → c.store_arm-e.result ≡ the_effect c.args.row c.args.core c.args.count c.args.memory.now.regs c.args.memory.now.ram
 unfolding arm_of
-store_is c = simp (c.in-Store.is, c.store_arm.ensures, c.next_row-next.ensures)
+store_is c = simp (c.in-Store.is, c.store_arm-e.ensures, c.next_row-next.ensures)
 
-branch_is : (c : After-branch_arm-e) → c.branch_arm-e.result ≡ the_effect c.args.row c.args.core c.args.count c.args.regs.now c.args.ram.now
+branch_is : (c : After-branch_arm-e) → c.branch_arm-e.result ≡ the_effect c.args.row c.args.core c.args.count c.args.memory.now.regs c.args.memory.now.ram
 unfolding arm_of
 branch_is c = simp (c.in-Branch.is, c.branch_arm-e.ensures, c.next_row-next.ensures)
 
-upper_is : (c : After-upper_arm) → c.upper_arm.result ≡ the_effect c.args.row c.args.core c.args.count c.args.regs.now c.args.ram.now
+upper_is : (c : After-upper_arm-e) → c.upper_arm-e.result ≡ the_effect c.args.row c.args.core c.args.count c.args.memory.now.regs c.args.memory.now.ram
 unfolding arm_of
-upper_is c = simp (c.in-Upper.is, c.upper_arm.ensures, c.next_row-next.ensures)
+upper_is c = simp (c.in-Upper.is, c.upper_arm-e.ensures, c.next_row-next.ensures)
 
-jump_is : (c : After-jump_arm) → c.jump_arm.result ≡ the_effect c.args.row c.args.core c.args.count c.args.regs.now c.args.ram.now
+jump_is : (c : After-jump_arm-e) → c.jump_arm-e.result ≡ the_effect c.args.row c.args.core c.args.count c.args.memory.now.regs c.args.memory.now.ram
 unfolding arm_of
-jump_is c = simp (c.in-Jump.is, c.jump_arm.ensures)
+jump_is c = simp (c.in-Jump.is, c.jump_arm-e.ensures)
 
-system_is : (c : After-system_arm) → c.system_arm.result ≡ the_effect c.args.row c.args.core c.args.count c.args.regs.now c.args.ram.now
+system_is : (c : After-system_arm-e) → c.system_arm-e.result ≡ the_effect c.args.row c.args.core c.args.count c.args.memory.now.regs c.args.memory.now.ram
 unfolding arm_of
-system_is c = simp (c.in-System.is, c.system_arm.ensures)
+system_is c = simp (c.in-System.is, c.system_arm-e.ensures)
 
 pub commit-requires : goal.commit-requires
-commit-requires c = may_commit c.args.row c.args.core c.args.count c.args.regs.now c.args.ram.now c.args.out.now _ (alu_is (goal.at.commit-requires c).After-alu_arm) c.requires
+commit-requires c = may_commit c.args.row c.args.core c.args.count c.args.memory.now.regs c.args.memory.now.ram _ (alu_is (goal.at.commit-requires c).After-alu_arm-e) c.requires
 
 pub commit-requires-in-ShiftStage : goal.commit-requires-in-ShiftStage
-commit-requires-in-ShiftStage c = may_commit c.args.row c.args.core c.args.count c.args.regs.now c.args.ram.now c.args.out.now _ (stage_is (goal.at.commit-requires-in-ShiftStage c).After-stage_arm-e) c.requires
+commit-requires-in-ShiftStage c = may_commit c.args.row c.args.core c.args.count c.args.memory.now.regs c.args.memory.now.ram _ (stage_is (goal.at.commit-requires-in-ShiftStage c).After-stage_arm-e) c.requires
 
 pub commit-requires-in-Load : goal.commit-requires-in-Load
-commit-requires-in-Load c = may_commit c.args.row c.args.core c.args.count c.args.regs.now c.args.ram.now c.args.out.now _ (load_is (goal.at.commit-requires-in-Load c).After-load_arm) c.requires
+commit-requires-in-Load c = may_commit c.args.row c.args.core c.args.count c.args.memory.now.regs c.args.memory.now.ram _ (load_is (goal.at.commit-requires-in-Load c).After-load_arm-e) c.requires
 
 pub commit-requires-in-Store : goal.commit-requires-in-Store
-commit-requires-in-Store c = may_commit c.args.row c.args.core c.args.count c.args.regs.now c.args.ram.now c.args.out.now _ (store_is (goal.at.commit-requires-in-Store c).After-store_arm) c.requires
+commit-requires-in-Store c = may_commit c.args.row c.args.core c.args.count c.args.memory.now.regs c.args.memory.now.ram _ (store_is (goal.at.commit-requires-in-Store c).After-store_arm-e) c.requires
 
 pub commit-requires-in-Branch : goal.commit-requires-in-Branch
-commit-requires-in-Branch c = may_commit c.args.row c.args.core c.args.count c.args.regs.now c.args.ram.now c.args.out.now _ (branch_is (goal.at.commit-requires-in-Branch c).After-branch_arm-e) c.requires
+commit-requires-in-Branch c = may_commit c.args.row c.args.core c.args.count c.args.memory.now.regs c.args.memory.now.ram _ (branch_is (goal.at.commit-requires-in-Branch c).After-branch_arm-e) c.requires
 
 pub commit-requires-in-Upper : goal.commit-requires-in-Upper
-commit-requires-in-Upper c = may_commit c.args.row c.args.core c.args.count c.args.regs.now c.args.ram.now c.args.out.now _ (upper_is (goal.at.commit-requires-in-Upper c).After-upper_arm) c.requires
+commit-requires-in-Upper c = may_commit c.args.row c.args.core c.args.count c.args.memory.now.regs c.args.memory.now.ram _ (upper_is (goal.at.commit-requires-in-Upper c).After-upper_arm-e) c.requires
 
 pub commit-requires-in-Jump : goal.commit-requires-in-Jump
-commit-requires-in-Jump c = may_commit c.args.row c.args.core c.args.count c.args.regs.now c.args.ram.now c.args.out.now _ (jump_is (goal.at.commit-requires-in-Jump c).After-jump_arm) c.requires
+commit-requires-in-Jump c = may_commit c.args.row c.args.core c.args.count c.args.memory.now.regs c.args.memory.now.ram _ (jump_is (goal.at.commit-requires-in-Jump c).After-jump_arm-e) c.requires
 
 pub commit-requires-in-System : goal.commit-requires-in-System
-commit-requires-in-System c = may_commit c.args.row c.args.core c.args.count c.args.regs.now c.args.ram.now c.args.out.now _ (system_is (goal.at.commit-requires-in-System c).After-system_arm) c.requires
+commit-requires-in-System c = may_commit c.args.row c.args.core c.args.count c.args.memory.now.regs c.args.memory.now.ram _ (system_is (goal.at.commit-requires-in-System c).After-system_arm-e) c.requires
 
 pub returns-in-Alu : goal.returns-in-Alu
 unfolding step_at
-returns-in-Alu c = let done = c.commit.ensures in let e = alu_is (goal.at.returns-in-Alu c).After-alu_arm in record {
+returns-in-Alu c = let done = c.commit.ensures in let e = alu_is (goal.at.returns-in-Alu c).After-alu_arm-e in record {
   cursor = done.cursor ∙ rw e refl;
   shown = done.shown ∙ rw e refl;
 }
@@ -94,14 +94,14 @@ returns-in-ShiftStage c = let done = c.commit-in-ShiftStage.ensures in let e = s
 
 pub returns-in-Load : goal.returns-in-Load
 unfolding step_at
-returns-in-Load c = let done = c.commit-in-Load.ensures in let e = load_is (goal.at.returns-in-Load c).After-load_arm in record {
+returns-in-Load c = let done = c.commit-in-Load.ensures in let e = load_is (goal.at.returns-in-Load c).After-load_arm-e in record {
   cursor = done.cursor ∙ rw e refl;
   shown = done.shown ∙ rw e refl;
 }
 
 pub returns-in-Store : goal.returns-in-Store
 unfolding step_at
-returns-in-Store c = let done = c.commit-in-Store.ensures in let e = store_is (goal.at.returns-in-Store c).After-store_arm in record {
+returns-in-Store c = let done = c.commit-in-Store.ensures in let e = store_is (goal.at.returns-in-Store c).After-store_arm-e in record {
   cursor = done.cursor ∙ rw e refl;
   shown = done.shown ∙ rw e refl;
 }
@@ -115,21 +115,21 @@ returns-in-Branch c = let done = c.commit-in-Branch.ensures in let e = branch_is
 
 pub returns-in-Upper : goal.returns-in-Upper
 unfolding step_at
-returns-in-Upper c = let done = c.commit-in-Upper.ensures in let e = upper_is (goal.at.returns-in-Upper c).After-upper_arm in record {
+returns-in-Upper c = let done = c.commit-in-Upper.ensures in let e = upper_is (goal.at.returns-in-Upper c).After-upper_arm-e in record {
   cursor = done.cursor ∙ rw e refl;
   shown = done.shown ∙ rw e refl;
 }
 
 pub returns-in-Jump : goal.returns-in-Jump
 unfolding step_at
-returns-in-Jump c = let done = c.commit-in-Jump.ensures in let e = jump_is (goal.at.returns-in-Jump c).After-jump_arm in record {
+returns-in-Jump c = let done = c.commit-in-Jump.ensures in let e = jump_is (goal.at.returns-in-Jump c).After-jump_arm-e in record {
   cursor = done.cursor ∙ rw e refl;
   shown = done.shown ∙ rw e refl;
 }
 
 pub returns-in-System : goal.returns-in-System
 unfolding step_at
-returns-in-System c = let done = c.commit-in-System.ensures in let e = system_is (goal.at.returns-in-System c).After-system_arm in record {
+returns-in-System c = let done = c.commit-in-System.ensures in let e = system_is (goal.at.returns-in-System c).After-system_arm-e in record {
   cursor = done.cursor ∙ rw e refl;
   shown = done.shown ∙ rw e refl;
 }

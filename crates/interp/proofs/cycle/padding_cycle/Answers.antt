@@ -8,8 +8,8 @@ pub put_effect-requires : goal.put_effect-requires
 put_effect-requires c =
     let a = c.args in
     let at = a.core.next_fetch in
-    let sound = (padding_lawful a.row at (suc at.0) a.regs.now c.requires.0.rd (omega arith) a.core.output).sound in
-    (c.requires.0, (rw c.padding_arm-e.ensures sound, c.requires.1))
+    let sound = (padding_lawful a.row at (suc at.0) a.memory.now.regs c.requires.rd (omega arith) a.core.output).sound in
+    (c.requires, rw c.padding_arm-e.ensures sound)
 
 pub returns : goal.returns
 unfolding frozen_at

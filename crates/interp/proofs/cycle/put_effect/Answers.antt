@@ -1,17 +1,16 @@
 -- `interp::put_effect` meets its contract. Assumes nothing.
-use Rattle.std.proofs.Common.{refl, ap, ◌∙◌}
+use Rattle.std.proofs.Common.{ap, ◌∙◌}
 use Rattle.interp.specs.Machine.{words}
-use Rattle.interp.specs.Cycle.{record_of, regs_after}
+use Rattle.interp.specs.Cycle.{record_of, ram_after}
 use Rattle.interp.proofs.cycle.put_effect.Goals as goal
 
 pub put-requires : goal.put-requires
 unfolding record_of
-put-requires c = let start = c in (start.requires.1.1, simp c.record_of-record.ensures start.requires.1.0.flags)
+put-requires c = simp c.record_of-record.ensures c.requires.1.flags
 
 pub returns : goal.returns
-unfolding regs_after
 returns c = record {
-  regs = refl;
-  ram = c.store.ensures;
+  regs = c.store.ensures.regs ∙ c.write.ensures.regs;
+  ram = c.store.ensures.ram ∙ ap (ram_after c.args.e) c.write.ensures.ram;
   shown = c.put.ensures ∙ ap words c.record_of-record.ensures;
 }

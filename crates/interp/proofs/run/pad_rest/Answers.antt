@@ -15,5 +15,5 @@ returns c =
     let done = c.run_padding.ensures in
     record {
       cursor = done.cursor;
-      records = rest_back a.records.now (17 * k) (flat (recorded (frozen_at a.stopped.row) (a.due - k) (whole a.stopped.core a.regs.now a.ram.now))) (17 * (a.due - k)) _ done.records ∙ rw m refl;
+      records = rest_back a.records.now (17 * k) (flat (recorded (frozen_at a.stopped.row) (a.due - k) (whole a.stopped.core a.memory.now))) (17 * (a.due - k)) _ done.records ∙ rw m refl;
     }

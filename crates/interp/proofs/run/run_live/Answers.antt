@@ -1,5 +1,5 @@
 -- `interp::run_live` meets its contract. Assumes nothing.
-use Rattle.std.proofs.Common.{◌≡◌, ℕ, ◌+◌, ◌-◌, ◌*◌, ◌^◌, ◌<◌, ◌≤◌, Bool, true, false, cond, eqb, ◌++◌, length, drop, sym, refl, ap, ◌∙◌, zero-add, arith, length-drop, length-take}
+use Rattle.std.proofs.Common.{◌≡◌, ℕ, ◌+◌, ◌*◌, ◌^◌, ◌<◌, ◌≤◌, Bool, true, false, cond, eqb, ◌++◌, length, drop, sym, refl, ap, ◌∙◌, zero-add, arith}
 use native.Mathlib.Nat.{sub-zero}
 use Rattle.expand.specs.declared.MicroPc.{MicroPc}
 use Rattle.expand.specs.declared.RomRow.{RomRow}
@@ -24,7 +24,7 @@ loop-core-init c =
     let core = c.afresh-core in
     let e = core.ensures in (
       record { pc = rw e c.requires.pc; fetch = rw e c.requires.fetch; few = λ h. omega (arith, c.requires.few_cycles h, ap (λ (k : Core). k.cycles) e); counted = rw (sub-zero c.args.limit) (sym (zero-add _)) },
-      record { state = refl; log = refl; long = refl; upto = omega arith; room = c.requires.fits; small = c.well_formed.1.1.1.1.1.0.1 },
+      record { state = refl; log = refl; long = refl; upto = omega arith; room = c.requires.fits; small = c.well_formed.1.1.1.1.0.1 },
       c.fetch_row-at.ensures ∙ ap (λ (b : Bool). cond b core.result.next_fetch core.result.micro_pc) c.is_over-over.ensures,
     )
 
@@ -54,8 +54,8 @@ returns-then-is_over c =
     let at-loop = c.loop-core in
     let rows = c.args.rows.now in
     let over = sym c.is_over.ensures ∙ c.if-is_over.true in
-    let none = count_over rows at-loop.i c.args.limit (whole at-loop.core at-loop.regs at-loop.ram) over in
-    let c₀ = whole c.afresh-core.result c.args.regs.now c.args.ram.now in
+    let none = count_over rows at-loop.i c.args.limit (whole at-loop.core at-loop.memory) over in
+    let c₀ = whole c.afresh-core.result c.args.memory.now in
     let taken : at-loop.i ≡ live_count_of rows c.args.limit c₀ = omega (arith, at-loop.invariant.0.counted, none) in
     let here : at-loop.at ≡ at-loop.core.next_fetch = at-loop.invariant.2 ∙ rw over refl in
     rw (sym c.afresh-core.ensures) record {
@@ -68,20 +68,11 @@ returns-then-is_over c =
 pub overflow_mul-base : goal.overflow_mul-base
 overflow_mul-base c = omega (arith, in-room (goal.at.overflow_mul-base c).Else-is_over)
 
-pub overflow_add-record : goal.overflow_add-record
-overflow_add-record c = omega (arith, in-room (goal.at.overflow_add-record c).Else-is_over)
-
-pub offset_bounds-records-base : goal.offset_bounds-records-base
-offset_bounds-records-base c = omega (arith, in-room (goal.at.offset_bounds-records-base c).Else-is_over)
-
-pub slice_bounds-record-count : goal.slice_bounds-record-count
-slice_bounds-record-count c = omega (arith, in-room (goal.at.slice_bounds-record-count c).Else-is_over)
-
 pub live_cycle-next-requires : goal.live_cycle-next-requires
 live_cycle-next-requires c =
     let at-loop = c.loop-core in
     let lt = (running (goal.at.live_cycle-next-requires c).Else-is_over).1 in
-    (rw c.rom_row-row.ensures (row_in _), (omega (arith, at-loop.invariant.0.few lt, lt), (at-loop.invariant.0.pc, simp (length-take, length-drop) (omega (arith, in-room (goal.at.live_cycle-next-requires c).Else-is_over)))))
+    (rw c.rom_row-row.ensures (row_in _), (omega (arith, at-loop.invariant.0.few lt, lt), at-loop.invariant.0.pc))
 
 pub overflow_add-i : goal.overflow_add-i
 overflow_add-i c = omega (arith, in-room (goal.at.overflow_add-i c).Else-is_over)
@@ -94,16 +85,15 @@ unfolding live
 loop-core-preserved c =
     let at-loop = c.loop-core in
     let rows = c.args.rows.now in
-    let now-at = whole at-loop.core at-loop.regs at-loop.ram in
+    let now-at = whole at-loop.core at-loop.memory in
     let run = running (goal.at.loop-core-preserved c).Else-is_over in
     let over = sym c.is_over.ensures ∙ c.if-is_over.false in
     let here : at-loop.at ≡ at-loop.core.micro_pc = at-loop.invariant.2 ∙ rw over refl in
     let row = c.rom_row-row.ensures ∙ ap (λ (p : MicroPc). row_at rows p.0) here in
     let done = c.live_cycle-next.ensures in
     let after = done.cursor ∙ ap (λ (r : RomRow). (step_at r (length rows) now-at).after) row in
-    let k17 : 17 * at-loop.i + 17 - 17 * at-loop.i ≡ 17 = omega arith in
     rw c.afresh-core-in-loop-core.ensures (
       rw after (live_on rows c.args.limit _ now-at at-loop.i at-loop.invariant.0 run.0 run.1),
-      going_on (live rows) c.args.limit c.args.records.now _ at-loop.records now-at at-loop.i at-loop.invariant.1 run.1 _ _ after (simp (k17, done.shown, row)),
+      going_on (live rows) c.args.limit c.args.records.now _ at-loop.records now-at at-loop.i at-loop.invariant.1 run.1 _ _ after (simp (c.split_at_mut-rest.ensures.front, c.split_at_mut-rest.ensures.back, c.split_at_mut-part.ensures.back, done.shown, row)),
       turn-kept rows now-at _ (at-loop.i + 1) c.args.limit after,
     )

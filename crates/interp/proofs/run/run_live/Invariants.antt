@@ -8,9 +8,9 @@ use Rattle.interp.proofs.run.run_live.Given as goal
 
 abbrev pub invariant-loop-core : goal.invariant-loop-core
 invariant-loop-core l =
-    Live l.rows l.limit (whole l.initial.core l.initial.regs l.initial.ram) (whole l.core l.regs l.ram) l.i
-    × Going (live l.rows) l.limit l.initial.records (whole l.initial.core l.initial.regs l.initial.ram) l.records (whole l.core l.regs l.ram) l.i
-    × (l.at ≡ turn-row (whole l.core l.regs l.ram) l.i l.limit)
+    Live l.rows l.limit (whole l.initial.core l.initial.memory) (whole l.core l.memory) l.i
+    × Going (live l.rows) l.limit l.initial.records (whole l.initial.core l.initial.memory) l.records (whole l.core l.memory) l.i
+    × (l.at ≡ turn-row (whole l.core l.memory) l.i l.limit)
 
 abbrev pub decreases-loop-core : goal.decreases-loop-core
 decreases-loop-core l = l.limit - l.i

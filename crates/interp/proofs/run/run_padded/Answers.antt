@@ -14,7 +14,7 @@ run_live-stopped-requires c = rw c.core_of-start.ensures c.requires.0
 most : (c : After-run_live-stopped) → c.run_live-stopped.result.count ≤ c.args.limit
 most c =
     let a = c.args in
-    omega (arith, c.run_live-stopped.ensures.count, count_most a.rows.now a.limit (whole c.core_of-start.result a.cursor.regs a.cursor.ram))
+    omega (arith, c.run_live-stopped.ensures.count, count_most a.rows.now a.limit (whole c.core_of-start.result (record { regs = a.cursor.regs; ram = a.cursor.ram })))
 
 pub due_of-count-requires : goal.due_of-count-requires
 due_of-count-requires c = omega (arith, most (goal.at.due_of-count-requires c).After-run_live-stopped, c.requires.0.fits, c.well_formed.1.1.1.1.0.1)

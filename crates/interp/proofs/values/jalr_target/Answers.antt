@@ -5,4 +5,4 @@ pub nonzero_rem-result : goal.nonzero_rem-result
 nonzero_rem-result c = simp c.row_count.ensures (row_count_pos c.args.rows)
 
 pub returns : goal.returns
-returns c = simp (c.wrapping_add_u64-to.ensures.value, c.row_count.ensures)
+returns c = simp (c.row_count.ensures)

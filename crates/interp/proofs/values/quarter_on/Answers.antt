@@ -4,12 +4,8 @@ use Rattle.interp.proofs.values.quarter_on.Goals as goal
 
 pub returns-then-imm-lt9223372036854775808 : goal.returns-then-imm-lt9223372036854775808
 unfolding quarter_on
-returns-then-imm-lt9223372036854775808 c = simp (lt-ltb _ _ c.if-imm-lt9223372036854775808.true, c.wrapping_add_u64.ensures.value)
+returns-then-imm-lt9223372036854775808 c = simp (lt-ltb _ _ c.if-imm-lt9223372036854775808.true)
 
-pub returns-then-down-mp : goal.returns-then-down-mp
+pub returns-else-imm-lt9223372036854775808 : goal.returns-else-imm-lt9223372036854775808
 unfolding quarter_on
-returns-then-down-mp c = simp (le-ltb _ _ c.if-imm-lt9223372036854775808.false) (omega arith)
-
-pub returns-else-down-mp : goal.returns-else-down-mp
-unfolding quarter_on
-returns-else-down-mp c = simp (le-ltb _ _ c.if-imm-lt9223372036854775808.false) (omega arith)
+returns-else-imm-lt9223372036854775808 c = simp (le-ltb _ _ c.if-imm-lt9223372036854775808.false) (omega (arith, c.wrapping_neg.ensures))

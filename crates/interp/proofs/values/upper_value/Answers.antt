@@ -6,7 +6,7 @@ use Rattle.interp.proofs.values.upper_value.Goals as goal
 
 pub returns-then-raw-eq23 : goal.returns-then-raw-eq23
 unfolding upper_value
-returns-then-raw-eq23 c = simp (← mask7, eq-eqb _ _ c.if-raw-eq23.true, c.wrapping_add_u64.ensures.value) (add-mod-mod _ _ _)
+returns-then-raw-eq23 c = simp (← mask7, eq-eqb _ _ c.if-raw-eq23.true) (add-mod-mod _ _ _)
 
 pub returns-else-raw-eq23 : goal.returns-else-raw-eq23
 unfolding upper_value
