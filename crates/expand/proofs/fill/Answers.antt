@@ -1,15 +1,8 @@
-use Rattle.std.proofs.Common.{arith}
-use Rattle.expand.proofs.Expansion.{room}
 use Rattle.expand.proofs.Filled.{filled_none, filled_on}
 use Rattle.expand.proofs.fill.Goals as goal
 
 pub loop-i-init : goal.loop-i-init
 loop-i-init c = filled_none _ _ _
-
-pub put-at-requires : goal.put-at-requires
-put-at-requires c =
-    let at = c.loop-i in
-    omega (arith, at.invariant, c.requires, room c.args.program.now at.i c.loop-i-test.true)
 
 pub loop-i-preserved : goal.loop-i-preserved
 loop-i-preserved c =

@@ -1,40 +1,45 @@
-use Rattle.std.proofs.Common.{◌≡◌, sym, ap, ◌∙◌, drop, true, false, ◌&&◌}
+use mathlib.Core.Path.{◌≡◌, refl, sym, ◌∙◌}
+use Prim.Native.Nat.{◌+◌}
+use native.Mathlib.Omega.{arith}
+use borrow.Author.Rules.{rules}
+use lib.ListN.{drop}
 use Rattle.expand.specs.Expand.{is_expansion}
-use Rattle.expand.proofs.Follow.{turn_none, stages_fit, turn_six, turn_one, turn_last}
+use mathlib.Core.Bool.{true, false, ◌&&◌}
+use Rattle.expand.proofs.Follow.{no_first_at, past, stages_fit, turn_six, turn_one}
 use Rattle.expand.proofs.is_expansion.Goals.{After-stages_after}
 use Rattle.expand.proofs.is_expansion.Goals as goal
 
--- the answer of the test of six rows, and the rows behind them
-six : (c : After-stages_after) → (c.stages_after.result && is_expansion (drop 6 c.loop-first.rest.now)) ≡ is_expansion c.args.rows.now
+six : (c : After-stages_after) → (c.stages_after.result && is_expansion (drop (c.loop-i.i + 6) c.args.rows.now)) ≡ is_expansion c.args.rows.now
 six c =
-    let at = c.in-Some in
-    rw c.stages_after.ensures (turn_six c.loop-first.rest.now at.after.now at.first.now at.ensures.cases.0 c.is_reg_shift.result c.if-v-ge4294967296.false c.is_reg_shift.ensures c.if-is_reg_shift.true)
-    ∙ c.loop-first.invariant
+    turn_six c.args.rows.now c.loop-i.i c.is_reg_shift.result c.loop-i-test.true c.if-v-ge4294967296.false c.is_reg_shift.ensures c.stages_after.result c.if-is_reg_shift.true c.stages_after.ensures
+    ∙ c.loop-i.invariant.1
+
+pub loop-i-init : goal.loop-i-init
+loop-i-init c = (omega arith, refl)
 
 pub returns-then-v-ge4294967296 : goal.returns-then-v-ge4294967296
 returns-then-v-ge4294967296 c =
-    let at = c.in-Some in
-    sym (turn_none c.loop-first.rest.now at.after.now at.first.now at.ensures.cases.0 c.if-v-ge4294967296.true) ∙ c.loop-first.invariant
+    let at = c.loop-i in
+    sym (no_first_at c.args.rows.now at.i (at.i + 1) (omega arith) c.loop-i-test.true c.if-v-ge4294967296.true) ∙ at.invariant.1
 
 pub returns-then-not-stages_after : goal.returns-then-not-stages_after
 returns-then-not-stages_after c =
     let no : c.stages_after.result ≡ false = c.if-not-stages_after.true in
     rw no at (six (goal.at.returns-then-not-stages_after c).After-stages_after)
 
-pub split_at-requires : goal.split_at-requires
-split_at-requires c =
+pub loop-i-preserved-then-is_reg_shift : goal.loop-i-preserved-then-is_reg_shift
+loop-i-preserved-then-is_reg_shift c =
     let yes : c.stages_after.result ≡ true = c.if-not-stages_after.false in
-    stages_fit _ _ (sym c.stages_after.ensures ∙ yes)
+    (stages_fit _ _ _ (sym c.stages_after.ensures ∙ yes), rw yes at (six (goal.at.loop-i-preserved-then-is_reg_shift c).After-stages_after))
 
-pub loop-first-preserved-then-is_reg_shift : goal.loop-first-preserved-then-is_reg_shift
-loop-first-preserved-then-is_reg_shift c =
-    let yes : c.stages_after.result ≡ true = c.if-not-stages_after.false in
-    ap is_expansion c.split_at.ensures.back ∙ rw yes at (six (goal.at.loop-first-preserved-then-is_reg_shift c).After-stages_after)
-
-pub loop-first-preserved : goal.loop-first-preserved
-loop-first-preserved c =
-    let at = c.in-Some in
-    turn_one c.loop-first.rest.now at.after.now at.first.now at.ensures.cases.0 c.is_reg_shift.result c.if-v-ge4294967296.false c.is_reg_shift.ensures c.if-is_reg_shift.false ∙ c.loop-first.invariant
+pub loop-i-preserved : goal.loop-i-preserved
+loop-i-preserved c =
+    let at = c.loop-i in (
+      search rules,
+      turn_one c.args.rows.now at.i c.is_reg_shift.result c.loop-i-test.true c.if-v-ge4294967296.false c.is_reg_shift.ensures c.if-is_reg_shift.false ∙ at.invariant.1,
+    )
 
 pub returns : goal.returns
-returns c = sym (turn_last c.loop-first.rest.now c.in_default.ensures.cases) ∙ c.loop-first.invariant
+returns c =
+    let at = c.loop-i in
+    sym (past c.args.rows.now at.i c.loop-i-test.false) ∙ at.invariant.1
