@@ -1,6 +1,6 @@
 -- What a turn of the loop does, and that the definition says "exactly". Assumes nothing.
 use mathlib.Core.Path.{◌≡◌, refl, sym, ap, ◌∙◌}
-use mathlib.Core.Bool.{Bool, beq, true, false, ◌&&◌, false≢true}
+use mathlib.Core.Bool.{Bool, true, false, ◌&&◌, false≢true}
 use Rattle.std.specs.Cmp.{booleans_Decides}
 use mathlib.Core.List.{List}
 use Prim.Native.Nat.{ℕ, ◌-◌}
@@ -33,16 +33,6 @@ agree_equals xs ys = same_from_decides (pointwise nat_eq xs ys) (agree xs ys) (b
 pub agree_slices : (xs ys : List ℕ) (from : ℕ)
     → pointwise nat_eq (take (length xs - from) (drop from xs)) (take (length ys - from) (drop from ys)) ≡ agree (drop from xs) (drop from ys)
 agree_slices xs ys from = rw (take_rest, take_rest) (agree_equals (drop from xs) (drop from ys))
-
--- `same_of`, test by test: each answer is made from the one before
-pub same_step_by_step : (a b : Cursor) (two three four : Bool) {five : Bool}
-    → two ≡ (eqb a.micro_pc.0 b.micro_pc.0 && beq a.halted b.halted)
-    → three ≡ (two && eqb a.output b.output)
-    → four ≡ (three && agree (drop 1 a.regs) (drop 1 b.regs))
-    → five ≡ (four && agree a.ram b.ram)
-    → five ≡ same_of a b
-unfolding same_of
-same_step_by_step a b two three four e f g h = h ∙ rw (g, f, e)
 
 -- ---- exactly
 

@@ -14,7 +14,7 @@ const FIRST_REGISTER: usize = 1;
 pub fn same_checkpoint(a: Cursor, b: Cursor) -> bool
     ensures { result ≡ same_of a b }
 {
-    a.micro_pc.0 == b.micro_pc.0
+    a.micro_pc == b.micro_pc
         && a.halted == b.halted
         && a.output == b.output
         && &a.regs[FIRST_REGISTER..] == &b.regs[FIRST_REGISTER..]

@@ -32,6 +32,8 @@ const PROGRAM: usize = 1022;
 const ROWS: usize = 6132;
 
 // ---- the parts of an input
+//
+// The loops below write by place: a zip with iter_mut was tried, and a proof knows nothing of what is written through it.
 
 // Word i.
 fn word_at(bytes: &[u8], i: usize) -> u32
@@ -67,9 +69,8 @@ fn fill_input(words: &[u32], input: &mut [u64])
     requires { length words.now / 2 ≤ length input.old }
     ensures { input.new ≡ pairs_of words.now ++ drop (length words.now / 2) input.old }
 {
-    for (i, pair) in words.as_chunks::<2>().0.iter().enumerate() {
-        let [low, high] = *pair;
-        input[i] = u64::from(low) + (u64::from(high) << 32);
+    for (i, [low, high]) in words.as_chunks::<2>().0.iter().enumerate() {
+        input[i] = u64::from(*low) + (u64::from(*high) << 32);
     }
 }
 

@@ -1,22 +1,38 @@
 -- `checkpoint::same_checkpoint` meets its contract. Assumes nothing.
-use mathlib.Core.Path.{◌∙◌}
-use borrow.Author.Tests.{eq-eqb, ne_eqb}
-use Rattle.checkpoint.proofs.Laws.{agree_equals, agree_slices, same_step_by_step}
+use mathlib.Core.Bool.{beq, ◌&&◌}
+use mathlib.Core.Path.{◌≡◌, ◌∙◌}
+use lib.Dec.{eqb}
+use lib.ListN.{drop}
+use Rattle.checkpoint.specs.Checkpoint.{agree, same_of}
+use Rattle.checkpoint.proofs.Laws.{agree_equals, agree_slices}
 use Rattle.checkpoint.proofs.same_checkpoint.Goals as goal
-use Rattle.checkpoint.proofs.same_checkpoint.Goals.{then-a-b, else-a-b, then-a-b-2, else-a-b-2, then-a-b-3, else-a-b-3}
+use Rattle.checkpoint.proofs.same_checkpoint.Goals.{Joined-a-b-2, then-eq, else-eq, then-a-b, else-a-b, then-a-b-2, else-a-b-2}
 
-pub returns-then-eq : goal.returns-then-eq
-returns-then-eq c =
-    same_step_by_step c.args.a c.args.b c.if-a-b.value c.if-a-b-2.value c.if-a-b-3.value
-    (elim c.if-a-b.branch [ then-a-b w ↦ rw (eq-eqb _ _ w.if-a-b.true) w.value-is | else-a-b w ↦ w.value-is ∙ rw (ne_eqb _ _ w.if-a-b.false) ])
-    (elim c.if-a-b-2.branch [ then-a-b-2 w ↦ rw (w.if-a-b-2.true) w.value-is | else-a-b-2 w ↦ w.value-is ∙ rw (w.if-a-b-2.false) ])
-    (elim c.if-a-b-3.branch [ then-a-b-3 w ↦ rw (w.if-a-b-3.true) (w.value-is ∙ w.eq.ensures ∙ agree_slices c.args.a.regs c.args.b.regs 1) | else-a-b-3 w ↦ w.value-is ∙ rw (w.if-a-b-3.false) ])
-    (rw c.if-eq.true (c.eq-then-eq.ensures ∙ agree_equals _ _))
+-- the tests in front of the last one
+in_front : (c : Joined-a-b-2)
+    → let a = c.args.a in
+    let b = c.args.b in
+    c.if-a-b-2.value ≡ (eqb a.micro_pc.0 b.micro_pc.0 && beq a.halted b.halted && eqb a.output b.output && agree (drop 1 a.regs) (drop 1 b.regs))
+in_front c =
+    let a = c.args.a in
+    let b = c.args.b in
+    let one : c.if-eq.value ≡ (eqb a.micro_pc.0 b.micro_pc.0 && beq a.halted b.halted) =
+    rw (← c.eq.ensures) (elim c.if-eq.branch [ then-eq w ↦ rw w.if-eq.true w.value-is | else-eq w ↦ w.value-is ∙ rw w.if-eq.false ]) in
+    let two : c.if-a-b.value ≡ (c.if-eq.value && eqb a.output b.output) =
+    elim c.if-a-b.branch [ then-a-b w ↦ rw w.if-a-b.true w.value-is | else-a-b w ↦ w.value-is ∙ rw w.if-a-b.false ] in
+    let three : c.if-a-b-2.value ≡ (c.if-a-b.value && agree (drop 1 a.regs) (drop 1 b.regs)) =
+    elim c.if-a-b-2.branch [
+      | then-a-b-2 w ↦ rw w.if-a-b-2.true (w.value-is ∙ w.eq-then-a-b-2.ensures ∙ agree_slices a.regs b.regs 1)
+      | else-a-b-2 w ↦ w.value-is ∙ rw w.if-a-b-2.false
+    ] in
+    three ∙ rw (two, one)
 
-pub returns-else-eq : goal.returns-else-eq
-returns-else-eq c =
-    same_step_by_step c.args.a c.args.b c.if-a-b.value c.if-a-b-2.value c.if-a-b-3.value
-    (elim c.if-a-b.branch [ then-a-b w ↦ rw (eq-eqb _ _ w.if-a-b.true) w.value-is | else-a-b w ↦ w.value-is ∙ rw (ne_eqb _ _ w.if-a-b.false) ])
-    (elim c.if-a-b-2.branch [ then-a-b-2 w ↦ rw (w.if-a-b-2.true) w.value-is | else-a-b-2 w ↦ w.value-is ∙ rw (w.if-a-b-2.false) ])
-    (elim c.if-a-b-3.branch [ then-a-b-3 w ↦ rw (w.if-a-b-3.true) (w.value-is ∙ w.eq.ensures ∙ agree_slices c.args.a.regs c.args.b.regs 1) | else-a-b-3 w ↦ w.value-is ∙ rw (w.if-a-b-3.false) ])
-    (rw c.if-eq.false)
+pub returns-then-eq-2 : goal.returns-then-eq-2
+unfolding same_of
+returns-then-eq-2 c =
+    rw (← in_front (goal.at.returns-then-eq-2 c).Joined-a-b-2, c.if-eq-2.true) (c.eq-then-eq-2.ensures ∙ agree_equals _ _)
+
+pub returns-else-eq-2 : goal.returns-else-eq-2
+unfolding same_of
+returns-else-eq-2 c =
+    rw (← in_front (goal.at.returns-else-eq-2 c).Joined-a-b-2, c.if-eq-2.false)
