@@ -49,10 +49,8 @@ pub(crate) fn alu_arm(row: RomRow, next: MicroPc, regs: &[u64; Cursor::REGS]) ->
     requires { InRange row }
     ensures { result ≡ alu_arm row next regs.now }
 {
-    let rs1 = row.rs1;
-    let rs2 = row.rs2;
-    let a = regs[rs1];
-    let b = values::second_operand(row.raw, regs[rs2], row.imm);
+    let a = regs[row.rs1];
+    let b = values::second_operand(row.raw, regs[row.rs2], row.imm);
     let v = values::alu_value(row.funct3, row.raw, a, b);
     let shift = shift_out(row.funct3, v);
     let shown = showing(a, b, v, shift, alu_flags(row.funct3, row.raw));
@@ -77,10 +75,8 @@ fn stage_effect(
     requires { InRange row }
     ensures { result ≡ stage_effect stage row next v regs.now }
 {
-    let rs1 = row.rs1;
-    let rs2 = row.rs2;
-    let a = regs[rs1];
-    let b = regs[rs2];
+    let a = regs[row.rs1];
+    let b = regs[row.rs2];
     if stage == expand::SHIFT_STAGES - 1 {
         let shown = showing(a, b, v, 0, CycleRecord::WE);
         return plain(writes_to(row.rd, v, regs), no_access(), shown, next);
@@ -105,10 +101,8 @@ pub(crate) fn stage_arm(
     requires { InRange row }
     ensures { result ≡ stage_arm stage row next acc regs.now }
 {
-    let rs1 = row.rs1;
-    let rs2 = row.rs2;
-    let a = regs[rs1];
-    let b = regs[rs2];
+    let a = regs[row.rs1];
+    let b = regs[row.rs2];
     let from = accumulated(stage, a, acc);
     let v = values::stage_value(stage, row.funct3, row.raw, from, b);
     stage_effect(stage, row, next, v, regs)
@@ -139,8 +133,7 @@ pub(crate) fn load_arm(
     requires { InRange row }
     ensures { result ≡ load_arm row next regs.now ram.now }
 {
-    let rs1 = row.rs1;
-    let a = regs[rs1];
+    let a = regs[row.rs1];
     let address = values::address_of(a, row.imm);
     let addr = values::ram_addr_of(address);
     let off = values::byte_offset_of(address);
@@ -166,10 +159,8 @@ pub(crate) fn store_arm(
     requires { InRange row }
     ensures { result ≡ store_arm row next regs.now ram.now }
 {
-    let rs1 = row.rs1;
-    let rs2 = row.rs2;
-    let a = regs[rs1];
-    let b = regs[rs2];
+    let a = regs[row.rs1];
+    let b = regs[row.rs2];
     let address = values::address_of(a, row.imm);
     let addr = values::ram_addr_of(address);
     let off = values::byte_offset_of(address);
@@ -218,10 +209,8 @@ pub(crate) fn branch_arm(
     requires { InRange row }
     ensures { result ≡ branch_arm row mp count next regs.now }
 {
-    let rs1 = row.rs1;
-    let rs2 = row.rs2;
-    let a = regs[rs1];
-    let b = regs[rs2];
+    let a = regs[row.rs1];
+    let b = regs[row.rs2];
     let taken = values::branch_taken(row.funct3, a, b);
     let difference = a.wrapping_sub(b);
     let shown = showing(a, b, difference, 0, branch_flags(taken));
@@ -238,10 +227,8 @@ pub(crate) fn upper_arm(
     requires { InRange row }
     ensures { result ≡ upper_arm row mp next regs.now }
 {
-    let rs1 = row.rs1;
-    let rs2 = row.rs2;
-    let a = regs[rs1];
-    let b = regs[rs2];
+    let a = regs[row.rs1];
+    let b = regs[row.rs2];
     let v = values::upper_value(row.raw, row.imm, mp);
     let shown = showing(a, b, v, 0, CycleRecord::WE);
     plain(writes_to(row.rd, v, regs), no_access(), shown, next)
@@ -262,10 +249,8 @@ pub(crate) fn jump_arm(row: RomRow, mp: MicroPc, count: usize, regs: &[u64; Curs
     requires { InRange row }
     ensures { result ≡ jump_arm row mp count regs.now }
 {
-    let rs1 = row.rs1;
-    let rs2 = row.rs2;
-    let a = regs[rs1];
-    let b = regs[rs2];
+    let a = regs[row.rs1];
+    let b = regs[row.rs2];
     let target = jump_target(row, mp, count, a);
     if row.rd == 0 {
         let shown = showing(a, b, 0, 0, 0);
@@ -285,10 +270,8 @@ pub(crate) fn system_arm(row: RomRow, mp: MicroPc, regs: &[u64; Cursor::REGS]) -
     requires { InRange row }
     ensures { result ≡ system_arm row mp regs.now }
 {
-    let rs1 = row.rs1;
-    let rs2 = row.rs2;
-    let a = regs[rs1];
-    let b = regs[rs2];
+    let a = regs[row.rs1];
+    let b = regs[row.rs2];
     let output = regs[10];
     let old = regs[32];
     let write = Write {
@@ -298,9 +281,9 @@ pub(crate) fn system_arm(row: RomRow, mp: MicroPc, regs: &[u64; Cursor::REGS]) -
     };
     let shown = showing(a, b, output, 0, CycleRecord::HALTED_LATCH);
     Effect {
-        write: write,
+        write,
         access: no_access(),
-        shown: shown,
+        shown,
         scratch: None,
         next_pc: mp,
         halts: true,

@@ -56,8 +56,7 @@ impl Memory {
         ensures regs { self.new.regs ≡ regs_after e self.old.regs }
         ensures ram { self.new.ram ≡ self.old.ram }
     {
-        let rd = e.write.rd;
-        self.regs[rd] = e.write.rd_val;
+        self.regs[e.write.rd] = e.write.rd_val;
     }
 
     // Stores ram_new, if is_store is set.
@@ -68,8 +67,7 @@ impl Memory {
         ensures ram { self.new.ram ≡ ram_after e self.old.ram }
     {
         if e.shown.flags / CycleRecord::IS_STORE % 2 == 1 {
-            let addr = e.access.ram_addr;
-            self.ram[addr] = e.access.ram_new;
+            self.ram[e.access.ram_addr] = e.access.ram_new;
         }
     }
 }
@@ -79,26 +77,19 @@ fn record_of(row: RomRow, at: MicroPc, e: Effect, memory: &Memory) -> CycleRecor
     requires { InRange row × Sound e }
     ensures { result ≡ record_of row at e memory.now.regs memory.now.ram }
 {
-    let rs1 = row.rs1;
-    let rs2 = row.rs2;
-    let addr = e.access.ram_addr;
-    let a = memory.regs[rs1];
-    let b = memory.regs[rs2];
-    let word = memory.ram[addr];
-    let next = e.next_pc;
     CycleRecord {
         micro_pc: at,
-        rs1_val: a,
-        rs2_val: b,
+        rs1_val: memory.regs[row.rs1],
+        rs2_val: memory.regs[row.rs2],
         rd_val: e.write.rd_val,
         rd_old: e.write.rd_old,
         rd: e.write.rd,
-        ram_addr: addr,
-        ram_word: word,
+        ram_addr: e.access.ram_addr,
+        ram_word: memory.ram[e.access.ram_addr],
         ram_old: e.access.ram_old,
         ram_new: e.access.ram_new,
         store_src: e.access.store_src,
-        next_pc: next,
+        next_pc: e.next_pc,
         alu_a: e.shown.alu_a,
         alu_b: e.shown.alu_b,
         alu_out: e.shown.alu_out,
@@ -186,13 +177,12 @@ fn commit(
 {
     put_effect(row, core.micro_pc, e, memory, out);
     memory.hold(e.scratch);
-    let next = e.next_pc;
     Core {
-        micro_pc: next,
+        micro_pc: e.next_pc,
         cycles: core.cycles + 1,
         halted: e.halts,
         output: output_after(e.halts, e.write.rd_val, core.output),
-        next_fetch: next,
+        next_fetch: e.next_pc,
     }
 }
 
@@ -224,8 +214,7 @@ pub(crate) fn live_cycle(
 {
     let mp = core.micro_pc;
     let next = next_row(mp, count);
-    let kind = row.kind;
-    match kind {
+    match row.kind {
         VirtualKind::Alu => {
             let e = alu_arm(row, next, &memory.regs);
             commit(row, core, e, memory, out)

@@ -99,7 +99,7 @@ pub(crate) fn showing(a: u64, b: u64, out: u64, shift: u64, flags: u64) -> Shown
         alu_b: b,
         alu_out: out,
         shift_out: shift,
-        flags: flags,
+        flags,
     }
 }
 
@@ -108,9 +108,9 @@ pub(crate) fn plain(write: Write, access: Access, shown: Shown, next: MicroPc) -
     ensures { result ≡ effect write access shown next }
 {
     Effect {
-        write: write,
-        access: access,
-        shown: shown,
+        write,
+        access,
+        shown,
         scratch: None,
         next_pc: next,
         halts: false,

@@ -31,7 +31,7 @@ struct Stopped {
 fn is_over(halted: bool, taken: usize, limit: usize) -> bool
     ensures { result ≡ (if halted then true else (taken == limit)) }
 {
-    if halted { true } else { taken == limit }
+    halted || taken == limit
 }
 
 // The row of the first turn: the next live one, or where padding stays.
@@ -75,13 +75,12 @@ fn run_live(
     let over = is_over(core.halted, i, limit);
     let mut at = fetch_row(over, core.next_fetch, core.micro_pc);
     loop {
-        let place = at.0;
-        let row = expand::rom_row(rows[place]);
+        let row = expand::rom_row(rows[at.0]);
         if is_over(core.halted, i, limit) {
             return Stopped {
-                core: core,
+                core,
                 count: i,
-                row: row,
+                row,
             };
         }
         let base = RECORD_WORDS * i;
@@ -167,8 +166,8 @@ fn whole_of(k: Core, memory: Memory) -> Cursor
     let regs = memory.regs;
     let ram = memory.ram;
     Cursor {
-        regs: regs,
-        ram: ram,
+        regs,
+        ram,
         micro_pc: MicroPc(k.micro_pc.0),
         cycles: k.cycles,
         halted: k.halted,
@@ -196,8 +195,8 @@ pub(crate) fn run_padded(
     let regs = cursor.regs;
     let ram = cursor.ram;
     let mut memory = Memory {
-        regs: regs,
-        ram: ram,
+        regs,
+        ram,
     };
     let start = core_of(cursor);
     let stopped = run_live(rows, start, limit, &mut memory, records);

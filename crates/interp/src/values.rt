@@ -53,7 +53,7 @@ fn signed_less(a: u64, b: u64) -> bool
 fn bool_word(t: bool) -> u64
     ensures { result ≡ bool_word t }
 {
-    if t { 1 } else { 0 }
+    u64::from(t)
 }
 
 // The ALU's second operand: b where raw's opcode is 0x33, else the immediate.
@@ -224,10 +224,11 @@ fn quarter_on(mp: usize, imm: u64) -> usize
 }
 
 // The source's prog_len, by which a target is never divided by 0.
+#[tactic(auto, unfolding(crate::specs::Values::row_count))]
 fn row_count(rows: usize) -> usize
     ensures { result ≡ row_count rows }
 {
-    if rows == 0 { 1 } else { rows }
+    rows.max(1)
 }
 
 // The row that a branch or JAL at row mp goes to.

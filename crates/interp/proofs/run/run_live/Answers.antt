@@ -40,11 +40,11 @@ in-room c =
     let going = c.loop-core.invariant.1 in
     (omega (arith, (running c).1, going.room, going.long), omega (arith, going.long, going.small))
 
-pub offset_bounds-rows-place : goal.offset_bounds-rows-place
-offset_bounds-rows-place c = omega (arith, at_in (goal.at.offset_bounds-rows-place c).At-loop-core)
+pub offset_bounds-rows-at : goal.offset_bounds-rows-at
+offset_bounds-rows-at c = omega (arith, at_in (goal.at.offset_bounds-rows-at c).At-loop-core)
 
-pub bounds-rows-place : goal.bounds-rows-place
-bounds-rows-place c = at_in (goal.at.bounds-rows-place c).At-loop-core
+pub bounds-rows-at : goal.bounds-rows-at
+bounds-rows-at c = at_in (goal.at.bounds-rows-at c).At-loop-core
 
 pub shape_of-records-then-is_over : goal.shape_of-records-then-is_over
 shape_of-records-then-is_over c = c.loop-core.invariant.1.long
