@@ -15,13 +15,14 @@ use Rattle.interp.specs.Cycle.{Step, cycle, padding}
 use Rattle.interp.specs.Calls.{recorded, end}
 use Rattle.interp.specs.Execute.{live_count_of, live_records_of, stopped_at, next_power_of_two, Executed}
 
--- a row's registers are x0 to x31
+-- a row's registers are x0 to x31; a premise and not a type, since each live cycle takes the RomRow itself, by value
 pub record InRange (row : RomRow) : Type 0 where
   pub rd : row.rd < 32
   pub rs1 : row.rs1 < 32
   pub rs2 : row.rs2 < 32
 
--- an effect's cell is a register cell, its address a RAM word, and its flags are the twelve
+-- an effect's cell is a register cell, its address a RAM word, and its flags are the twelve; a premise and not a type, so that
+-- the definitions of the arms (Cycle) hold no proofs
 pub record Sound (e : Effect) : Type 0 where
   pub rd : e.write.rd < 64
   pub addr : e.access.ram_addr < 256

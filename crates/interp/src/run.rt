@@ -10,7 +10,8 @@ use crate::cycle::{Core, Memory, live_cycle, padding_cycle};
 use crate::{Cursor, Execution, RECORD_WORDS};
 use expand::{MicroPc, RomRow};
 
-// How many records are due.
+// How many records are due. An enum and no closure: the contracts name the two cases, and of a closure they could only say
+// what it answers.
 #[derive(Clone, Copy)]
 pub(crate) enum Due {
     // As many as the call was asked for.
@@ -56,7 +57,10 @@ fn afresh(k: Core) -> Core
 
 // Live cycles until the machine halts, at most `limit`; they are counted. A row is taken apart in one place, so that the
 // compiler builds the decoder into the loop: where the live cycles end, that is the row at which padding stays. After a cycle
-// both positions are one, so that a row is fetched without waiting for the test whether it is live.
+// both positions are one, so that a row is fetched without waiting for the test whether it is live. The cycles are counted by
+// hand, since their number, at which padding starts, is an answer, and so that the shape of the loop stays as it was measured.
+// The buffer is cut here and not by `as_chunks_mut`, whose contract does not say what the slice ends as; and twice, so that the
+// compiler knows the length of a part: `first_chunk_mut` of the rest costs a live cycle eight instructions more.
 fn run_live(
     rows: &[u64],
     start: Core,
@@ -160,6 +164,7 @@ fn core_of(c: Cursor) -> Core
     }
 }
 
+// No `From`, which takes one value.
 fn whole_of(k: Core, memory: Memory) -> Cursor
     ensures { result ≡ whole k memory }
 {
@@ -194,10 +199,7 @@ pub(crate) fn run_padded(
 {
     let regs = cursor.regs;
     let ram = cursor.ram;
-    let mut memory = Memory {
-        regs,
-        ram,
-    };
+    let mut memory = Memory { regs, ram };
     let start = core_of(cursor);
     let stopped = run_live(rows, start, limit, &mut memory, records);
     let count = due_of(due, stopped.count);

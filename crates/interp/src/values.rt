@@ -212,7 +212,8 @@ pub(crate) fn branch_taken(funct3: u32, a: u64, b: u64) -> bool
     }
 }
 
-// The source divides an i64, which rounds towards zero, and takes the larger of the sum and 0.
+// The source divides an i64, which rounds towards zero, and takes the larger of the sum and 0. Both signs are told apart here,
+// since a row position from 2^63 on would be negative in a sum of i64.
 fn quarter_on(mp: usize, imm: u64) -> usize
     ensures { result ≡ quarter_on mp imm }
 {
