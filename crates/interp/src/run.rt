@@ -152,19 +152,21 @@ fn due_of(due: Due, count: usize) -> usize
     }
 }
 
-fn core_of(c: Cursor) -> Core
-    ensures { result ≡ core_of c }
-{
-    Core {
-        micro_pc: MicroPc(c.micro_pc.0),
-        cycles: c.cycles,
-        halted: c.halted,
-        output: c.output,
-        next_fetch: MicroPc(c.next_fetch.0),
+impl From<Cursor> for Core {
+    ghost from_gives = { λ c k. k ≡ core_of c };
+
+    fn from(c: Cursor) -> Core {
+        Core {
+            micro_pc: MicroPc(c.micro_pc.0),
+            cycles: c.cycles,
+            halted: c.halted,
+            output: c.output,
+            next_fetch: MicroPc(c.next_fetch.0),
+        }
     }
 }
 
-// No `From`, which takes one value.
+// No `From`, which takes one value where these are two.
 fn whole_of(k: Core, memory: Memory) -> Cursor
     ensures { result ≡ whole k memory }
 {
@@ -200,7 +202,7 @@ pub(crate) fn run_padded(
     let regs = cursor.regs;
     let ram = cursor.ram;
     let mut memory = Memory { regs, ram };
-    let start = core_of(cursor);
+    let start = Core::from(cursor);
     let stopped = run_live(rows, start, limit, &mut memory, records);
     let count = due_of(due, stopped.count);
     pad_rest(stopped, count, &mut memory, records);
