@@ -4,401 +4,221 @@
 // list with a line of totals.
 #![tactic(auto)]
 
-ghost use Rattle.std.specs.Prelude.{◌+◌, ◌≤◌, length};
+ghost use Rattle.std.specs.Prelude.{◌≤◌, length};
 
-use expand::{Expanded, InstPos, Start};
-use listing::{Compared, Head, Program, Tally};
-use report::{Console, say, say_differs, say_line, say_number, say_place, say_tally, wrong_line};
-use std::env::Env;
+use arrayvec::ArrayVec;
+use expand::{InstPos, MicroPc, Refusal, SHIFT_STAGES};
+use listing::Head;
+use report::{Console, Report};
 use std::fs::File;
-use std::io::Print;
-use std::rt::Files;
+use std::{fmt, io};
+use text_lines::Unreadable;
 
-// The row lines of a program, in its first bytes. It is passed as an array, so that no caller has to
-// prove its length.
-type Lines = [u8; 65536];
+// The most row lines of a program, and so the most words.
+const MAX_ROWS: usize = 1365;
 
-// The row lines that it holds, and so the most words of a program.
-const MAX_CASE_ROWS: usize = 1365;
+// The bytes of so many row lines.
+const MAX_BYTES: usize = MAX_ROWS * 48;
 
 // The rows that so many words can have.
-const MAX_EXPANSION: usize = 8190;
+const MAX_EXPANSION: usize = MAX_ROWS * SHIFT_STAGES;
 
 // No row word and no row position: what stands in a buffer before a call.
 const GUARD: u64 = u64::MAX;
 
-// The tally after the next program of a list; the last one, where the list ends; or a read failed.
+// What is wrong with a program as a whole.
 #[derive(Clone, Copy)]
-enum Next {
-    Program(Tally),
-    Last(Tally),
-    Failed,
+enum Fault {
+    Words { announced: usize, found: usize },
+    Rows { announced: usize, right: usize },
+    Refused(Refusal),
+    // In buffers that suffice.
+    RefusedExact,
+    NoExpansion,
+    // In a larger buffer, than in one of the exact size.
+    OtherRows,
+    OtherStarts,
 }
 
-// The words that were found, and the tally after the rows that they were looked for in.
-#[derive(Clone, Copy)]
-struct Words {
-    count: usize,
-    tally: Tally,
-}
-
-fn say_total(to: Console, name: &[u8], programs: u64, tally: Tally) {
-    say(to, name);
-    say(to, b": ");
-    say_number(to, programs);
-    say(to, b" programs, ");
-    say_tally(to, tally);
-}
-
-// Says that a count of a program line is not right, and answers the tally after the program.
-fn wrong_count(
-    to: Console,
-    name: &[u8],
-    tally: Tally,
-    rows: usize,
-    announced: usize,
-    what: &[u8],
-    right: usize,
-    end: &[u8],
-) -> Tally {
-    let wrong = tally.with_wrong();
-    say_place(to, name, wrong.lines);
-    say_number(to, announced as u64);
-    say(to, what);
-    say_number(to, right as u64);
-    say(to, end);
-    wrong.with_lines(rows)
-}
-
-// Says that the expansion has another count of rows.
-fn wrong_rows(to: Console, name: &[u8], tally: Tally, rows: usize, right: usize) -> Tally {
-    let what = b" rows announced, the expansion has ";
-    wrong_count(to, name, tally, rows, rows, what, right, b"\n")
-}
-
-// Says what is wrong with a program as a whole, and answers the tally after it.
-fn wrong_program(to: Console, name: &[u8], tally: Tally, rows: usize, what: &[u8]) -> Tally {
-    wrong_line(to, name, tally, what).with_lines(rows)
-}
-
-// The line that starts at `at`.
-fn line_at(lines: &Lines, at: usize) -> [u8; 48]
-    requires { at + 48 ≤ 65536 }
-{
-    let mut line = [0u8; 48];
-    for i in 0..48 {
-        line[i] = lines[at + i];
-    }
-    line
-}
-
-// Puts the words of a program, which its first rows name, into `program`.
-fn read_words(
-    to: Console,
-    name: &[u8],
-    tally: Tally,
-    lines: &Lines,
-    rows: usize,
-    program: &mut [u32; MAX_CASE_ROWS],
-) -> Words
-    requires { rows ≤ 1365 }
-    ensures { result.count ≤ rows }
-{
-    let mut count = 0;
-    let mut after = tally;
-    for r in 0..rows {
-        let line = line_at(lines, r * 48);
-        match listing::head_of(&line) {
-            Head::First(raw) => {
-                program[count] = raw;
-                count += 1;
-                after = after.with_lines(1);
+impl fmt::Display for Fault {
+    fn fmt<W: fmt::Write>(&self, f: &mut fmt::Formatter<W>) -> fmt::Result {
+        match self {
+            Fault::Words { announced, found } => {
+                write!(f, "{announced} words announced, {found} found")
             }
-            Head::Later => {
-                after = after.with_lines(1);
+            Fault::Rows { announced, right } => {
+                write!(f, "{announced} rows announced, the expansion has {right}")
             }
-            Head::NoLine => {
-                after = wrong_line(to, name, after, b"not a row line");
+            Fault::Refused(why) => {
+                let number = u64::from(*why);
+                write!(f, "refused {number}")
             }
+            Fault::RefusedExact => write!(f, "buffers that suffice are refused"),
+            Fault::NoExpansion => write!(f, "the rows are taken for no expansion"),
+            Fault::OtherRows => write!(f, "a larger buffer holds other rows"),
+            Fault::OtherStarts => write!(f, "a larger buffer holds other starts"),
         }
     }
-    Words {
-        count,
-        tally: after,
+}
+
+// The words of a program, which its first rows name; none, where a line is no row line, or there are
+// too many.
+fn words_of(lines: &[[u8; 48]]) -> Option<ArrayVec<u32, MAX_ROWS>> {
+    let mut words = ArrayVec::new();
+    for line in lines {
+        match listing::head_of(line) {
+            Head::First(raw) => words.try_push(raw).ok()?,
+            Head::Later => {}
+            Head::NoLine => return None,
+        }
     }
+    Some(words)
+}
+
+// Says which lines of a program are no row lines, and that it is not expanded.
+fn say_no_rows(list: &mut Report<'_>, lines: &[[u8; 48]]) {
+    let first = list.counts.lines;
+    for line in lines {
+        list.line();
+        if let Head::NoLine = listing::head_of(line) {
+            list.wrong("not a row line");
+        }
+    }
+    list.say_line(first, "not expanded");
 }
 
 // Whether `wide` holds what `exact` holds, and past it what it held before.
-fn begins_with(wide: &[u64], exact: &[u64]) -> bool {
-    for i in 0..wide.len() {
-        let want = if i < exact.len() { exact[i] } else { GUARD };
-        if wide[i] != want {
-            return false;
-        }
-    }
-    exact.len() <= wide.len()
+fn holds_only(wide: &[u64], exact: &[u64]) -> bool {
+    let rest = wide.strip_prefix(exact);
+    rest.is_some_and(|rest| rest.iter().all(|word| *word == GUARD))
 }
 
-// Whether row `r` is the first of an instruction.
-fn starts_at(starts: &[u64], inst: usize, r: usize) -> bool {
-    match expand::inst_to_micro(starts, InstPos(inst)) {
-        Start::At(at) => at.0 == r,
-        Start::Past => false,
+fn check_count(announced: usize, right: usize) -> Result<(), Fault> {
+    if announced == right {
+        Ok(())
+    } else {
+        Err(Fault::Rows { announced, right })
     }
 }
 
-fn check_row(
-    to: Console,
-    name: &[u8],
-    tally: Tally,
-    line: &[u8; 48],
-    word: u64,
-    distance: usize,
-) -> Tally {
+// Expands a program, of so many words as is announced, into buffers of the exact size, and into larger
+// ones, which have to agree.
+fn expand_twice(
+    announced: usize,
+    words: &[u32],
+    rows: &mut [u64],
+    starts: &mut [u64],
+) -> Result<(), Fault> {
+    let found = words.len();
+    if announced != found {
+        return Err(Fault::Words { announced, found });
+    }
+    let mut wide_rows = [GUARD; MAX_EXPANSION];
+    let mut wide_starts = [GUARD; MAX_EXPANSION];
+    let wide = expand::expand_program(words, &mut wide_rows, &mut wide_starts);
+    check_count(rows.len(), wide.map_err(Fault::Refused)?)?;
+    let exact = expand::expand_program(words, rows, starts);
+    check_count(rows.len(), exact.map_err(|_| Fault::RefusedExact)?)?;
+    if !expand::is_expansion(rows) {
+        return Err(Fault::NoExpansion);
+    }
+    if !holds_only(&wide_rows, rows) {
+        return Err(Fault::OtherRows);
+    }
+    if !holds_only(&wide_starts, starts) {
+        return Err(Fault::OtherStarts);
+    }
+    Ok(())
+}
+
+// Compares the next line of a program with its row.
+fn check_row(list: &mut Report<'_>, line: &[u8; 48], word: u64, distance: usize) {
+    list.line();
     match listing::compare_row(line, word, distance) {
-        Compared::Same(n) => tally.with_same(n),
-        Compared::Differs(at) => {
-            let wrong = tally.with_wrong();
-            say_differs(to, name, wrong.lines, at);
-            say_line(to, b"  stored   ", line);
-            let made = listing::row_line_of(word, distance);
-            say_line(to, b"  expanded ", &made);
-            wrong
+        Ok(n) => list.counts.add_same(n as u64),
+        Err(at) => {
+            list.differs(at);
+            list.to.say("  stored   ");
+            list.to.say_bytes(line);
+            list.to.say("  expanded ");
+            list.to.say_bytes(&listing::row_line_of(word, distance));
         }
     }
 }
 
 // Compares the lines of a program with its rows.
-fn check_rows(
-    to: Console,
-    name: &[u8],
-    tally: Tally,
-    lines: &Lines,
-    rows: &[u64],
-    starts: &[u64],
-) -> Tally
-    requires { length rows.now ≤ 1365 }
-{
-    let mut after = tally;
+fn check_rows(list: &mut Report<'_>, lines: &[[u8; 48]], rows: &[u64], starts: &[u64]) {
     let mut inst = 0;
-    // A row before the first start has a distance that no stored row has.
-    let mut distance = 8;
-    for r in 0..rows.len() {
-        if starts_at(starts, inst, r) {
+    // No stored row has the distance 9, which is that of a row before the first start.
+    let mut distance: usize = 9;
+    for (r, (line, word)) in lines.iter().zip(rows).enumerate() {
+        if expand::inst_to_micro(starts, InstPos(inst)) == Some(MicroPc(r)) {
             inst += 1;
             distance = 0;
         } else {
-            distance += 1;
+            distance = (distance + 1).min(9);
         }
-        let line = line_at(lines, r * 48);
-        after = check_row(to, name, after, &line, rows[r], distance);
+        check_row(list, line, *word, distance);
     }
-    after
 }
 
-// Checks rows and starts in buffers of the exact size against larger buffers and the lines.
-fn check_lent(
-    to: Console,
-    name: &[u8],
-    tally: Tally,
-    lines: &Lines,
-    rows: &[u64],
-    starts: &[u64],
-    wide_rows: &[u64],
-    wide_starts: &[u64],
-) -> Tally
-    requires { length rows.now ≤ 1365 }
+// Checks the program of the last line that was taken, of so many words, by its row lines.
+fn check_program(list: &mut Report<'_>, announced: usize, lines: &[[u8; 48]])
+    requires { length lines.now ≤ 1365 }
 {
-    let n = rows.len();
-    if !expand::is_expansion(rows) {
-        return wrong_program(to, name, tally, n, b"the rows are taken for no expansion");
-    }
-    if !begins_with(wide_rows, rows) {
-        return wrong_program(to, name, tally, n, b"a larger buffer holds other rows");
-    }
-    if !begins_with(wide_starts, starts) {
-        return wrong_program(to, name, tally, n, b"a larger buffer holds other starts");
-    }
-    check_rows(to, name, tally.with_lines(1), lines, rows, starts)
-}
-
-// Expands a program of `n` rows into buffers of the exact size.
-fn check_exact(
-    to: Console,
-    name: &[u8],
-    tally: Tally,
-    lines: &Lines,
-    program: &[u32],
-    n: usize,
-    wide_rows: &[u64],
-    wide_starts: &[u64],
-) -> Tally
-    requires { (n ≤ 1365) × (length program.now ≤ 1365) }
-{
-    let mut row_places = [GUARD; MAX_CASE_ROWS];
-    let mut start_places = [GUARD; MAX_CASE_ROWS];
-    let rows = &mut row_places[0..n];
-    let starts = &mut start_places[0..program.len()];
-    let Expanded::Rows(count) = expand::expand_program(program, rows, starts) else {
-        return wrong_program(to, name, tally, n, b"buffers that suffice are refused");
+    let Some(words) = words_of(lines) else {
+        say_no_rows(list, lines);
+        return;
     };
-    if count != n {
-        return wrong_rows(to, name, tally, n, count);
-    }
-    check_lent(to, name, tally, lines, rows, starts, wide_rows, wide_starts)
-}
-
-// Expands a program of so many row lines into buffers that are larger than it needs.
-fn check_expansion(
-    to: Console,
-    name: &[u8],
-    tally: Tally,
-    lines: &Lines,
-    rows: usize,
-    words: &[u32; MAX_CASE_ROWS],
-    count: usize,
-) -> Tally
-    requires { (rows ≤ 1365) × (count ≤ 1365) }
-{
-    let all = &words[..];
-    let program = &all[0..count];
-    let mut wide_rows = [GUARD; MAX_EXPANSION];
-    let mut wide_starts = [GUARD; MAX_EXPANSION];
-    match expand::expand_program(program, &mut wide_rows, &mut wide_starts) {
-        Expanded::Rows(n) => {
-            if n == rows {
-                check_exact(to, name, tally, lines, program, n, &wide_rows, &wide_starts)
-            } else {
-                wrong_rows(to, name, tally, rows, n)
-            }
-        }
-        Expanded::Refused(e) => {
-            let wrong = tally.with_wrong();
-            say_place(to, name, wrong.lines);
-            say(to, b"refused ");
-            say_number(to, e.number());
-            say(to, b"\n");
-            wrong.with_lines(rows)
+    let mut row_places = [GUARD; MAX_ROWS];
+    let mut start_places = [GUARD; MAX_ROWS];
+    let rows = &mut row_places[..lines.len()];
+    let starts = &mut start_places[..words.len()];
+    match expand_twice(announced, &words, rows, starts) {
+        Ok(()) => check_rows(list, lines, rows, starts),
+        Err(fault) => {
+            list.wrong(fault);
+            list.counts.add_lines(lines.len() as u64);
         }
     }
 }
 
-// Checks a program of so many words and rows by its row lines.
-fn check_program(
-    to: Console,
-    name: &[u8],
-    tally: Tally,
-    words: usize,
-    rows: usize,
-    lines: &Lines,
-) -> Tally
-    requires { rows ≤ 1365 }
-{
-    let mut program = [0u32; MAX_CASE_ROWS];
-    let counted = tally.with_lines(1);
-    let read = read_words(to, name, counted, lines, rows, &mut program);
-    let after = read.tally;
-    if after.wrong != counted.wrong {
-        say_place(to, name, counted.lines);
-        say(to, b"not expanded\n");
-        return after;
+// Takes the next program, and answers whether to go on.
+fn take_program(list: &mut Report<'_>, file: &mut File) -> io::Result<bool> {
+    let Some(line) = text_lines::next_sized(file, list)? else {
+        return Ok(false);
+    };
+    let Some(sizes) = listing::program_counts(&line) else {
+        list.wrong("not a program line");
+        return Ok(false);
+    };
+    let rows = sizes.rows as usize;
+    if MAX_ROWS < rows {
+        list.wrong(format_args!("more than {MAX_ROWS} rows"));
+        return Ok(false);
     }
-    let n = read.count;
-    if n != words {
-        let what = b" words announced, ";
-        return wrong_count(to, name, tally, rows, words, what, n, b" found\n");
+    let mut buffer = [0u8; MAX_BYTES];
+    let bytes = &mut buffer[..rows * 48];
+    if input::fill(file, bytes)? < bytes.len() {
+        list.wrong(Unreadable::Cut);
+        return Ok(false);
     }
-    check_expansion(to, name, tally, lines, rows, &program, n)
+    let (lines, _) = bytes.as_chunks::<48>();
+    check_program(list, sizes.words as usize, lines);
+    Ok(true)
 }
 
-// Reads the row lines of a program, and checks it.
-fn read_program(
-    to: Console,
-    file: &mut File,
-    name: &[u8],
-    tally: Tally,
-    words: usize,
-    rows: usize,
-) -> Next {
-    if MAX_CASE_ROWS < rows {
-        return Next::Last(wrong_line(to, name, tally, b"more than 1365 rows"));
-    }
-    let mut lines = [0u8; 65536];
-    let size = rows * 48;
-    let got = input::fill(file, &mut lines[0..size]);
-    if let Some(why) = got.failed {
-        input::fail(to.err, name, why);
-        return Next::Failed;
-    }
-    if got.count < size {
-        return Next::Last(wrong_line(to, name, tally, b"cut short"));
-    }
-    Next::Program(check_program(to, name, tally, words, rows, &lines))
-}
-
-// Takes the next program of a list.
-fn check_next(to: Console, file: &mut File, name: &[u8], tally: Tally) -> Next {
-    let mut line = [0u8; 48];
-    let got = input::fill(file, &mut line);
-    if let Some(why) = got.failed {
-        input::fail(to.err, name, why);
-        return Next::Failed;
-    }
-    if got.count == 0 {
-        return Next::Last(tally);
-    }
-    if got.count < 48 {
-        return Next::Last(wrong_line(to, name, tally, b"cut short"));
-    }
-    match listing::program_counts(&line) {
-        Program::Counts(k, n) => read_program(to, file, name, tally, k as usize, n as usize),
-        Program::NoLine => Next::Last(wrong_line(to, name, tally, b"not a program line")),
-    }
-}
-
-// A proved loop has to end, and nothing says that a file does. So the loop counts the programs, to a
-// number that no list has.
-fn check_list(to: Console, file: &mut File, name: &[u8]) {
-    let mut tally = Tally::none();
-    let mut programs: u64 = 0;
-    while programs < u64::MAX {
-        match check_next(to, file, name, tally) {
-            Next::Program(t) => {
-                tally = t;
-                programs += 1;
-            }
-            Next::Last(t) => {
-                say_total(to, name, programs, t);
-                return;
-            }
-            Next::Failed => {
-                return;
-            }
+// Checks the programs of a list. The bound is one that no list reaches.
+fn check_list(list: &mut Report<'_>, mut file: File) -> io::Result<()> {
+    for programs in 0..u64::MAX {
+        if !take_program(list, &mut file)? {
+            list.say_compared(format_args!("{programs} programs, "));
+            break;
         }
     }
-}
-
-fn check_argument<R: Env + Files<File = File>>(rt: &R, to: Console, i: usize) {
-    let mut path = [0u8; 4096];
-    let list = input::open_argument(rt, to.err, i, &mut path);
-    let n = list.length;
-    if let Some(mut file) = list.file {
-        check_list(to, &mut file, &path[..n]);
-    }
+    Ok(())
 }
 
 fn main(rt: HostRuntime) {
-    let to = Console {
-        out: rt.stdout(),
-        err: rt.stderr(),
-    };
-    let count = input::argument_count(&rt);
-    if count < 2 {
-        // There is no place to tell that this fails.
-        let _ = to.err.write_all(b"usage: expand_vectors LIST..\n");
-        return;
-    }
-    for i in 1..count {
-        check_argument(&rt, to, i);
-    }
+    report::each_list(&rt, Console::of(&rt), "expand_vectors", check_list);
 }
