@@ -1,5 +1,6 @@
 -- The counts of a list's lines. Assumes nothing: these are definitions.
-use Rattle.std.specs.Prelude.{ℕ, ◌+◌, ◌%◌, ◌^◌}
+use Rattle.std.specs.Prelude.{◌≡◌, ℕ, ◌+◌, ◌%◌, ◌^◌, Bool, true, false, ◌⊎◌, List, Option, None, Some, Result, Ok, Err}
+use Rattle.std.specs.declared.io.Error.{Error}
 use Rattle.report.specs.declared.Counts.{Counts}
 
 -- n more, which wraps at 2^64
@@ -34,3 +35,19 @@ with_passed c = counts_of c.lines c.characters (one_more c.passed) c.wrong
 -- one more of the lines is wrong
 abbrev pub with_wrong : Counts → Counts
 with_wrong c = counts_of c.lines c.characters c.passed (one_more c.wrong)
+
+-- the list ends inside a line, which is taken and is wrong
+abbrev pub with_cut : Counts → Counts
+with_cut c = with_wrong (with_lines 1 c)
+
+-- the counts after a part was read, or was cut short, or a read failed
+abbrev pub after_part : Result Bool Error → Counts → Counts
+after_part (Ok true) c = c
+after_part (Ok false) c = with_cut c
+after_part (Err why) c = c
+
+-- likewise after a line was read; where there is none, the list ends behind a line or inside one
+abbrev pub IsAfterLine : Result (Option (List ℕ)) Error → Counts → Counts → Type 0
+IsAfterLine (Ok (Some line)) old new = new ≡ old
+IsAfterLine (Ok None) old new = (new ≡ old) ⊎ (new ≡ with_cut old)
+IsAfterLine (Err why) old new = new ≡ old

@@ -3,12 +3,13 @@
 #![tactic(auto)]
 
 ghost use Rattle.std.specs.Prelude.{◌≡◌};
-ghost use Rattle.report.specs.Counting.{one_more, no_counts, with_lines, with_same, with_passed, with_wrong};
+ghost use Rattle.report.specs.Counting.{one_more, no_counts, with_lines, with_same, with_passed, with_wrong, after_part, IsAfterLine};
+ghost use Rattle.report.specs.Reading.{ReadsPart, ReadsLine};
 
 use std::env::Env;
 use std::fmt::Display;
 use std::io;
-use std::io::{Print, Stderr, Stdout};
+use std::io::{Print, Read, Stderr, Stdout};
 use std::rt::Files;
 
 // Where messages go, and what fails there is told.
@@ -146,6 +147,42 @@ impl<'a> Report<'a> {
         ensures { self.new ≡ record self.old { counts = with_wrong self.old.counts } }
     {
         self.wrong(format_args!("differs at column {at}"));
+    }
+
+    // Fills a part of the list, and answers whether it has so much. A part that is cut short is a wrong
+    // line.
+    pub fn read_part<R: Read>(&mut self, file: &mut R, part: &mut [u8]) -> io::Result<bool>
+        ensures counts { self.new ≡ record self.old { counts = after_part result self.old.counts } }
+        ensures bytes { ReadsPart result (R.remaining file.old) (R.remaining file.new) part.new }
+    {
+        let n = input::fill(file, part)?;
+        if n < part.len() {
+            self.line();
+            self.wrong("cut short");
+            return Ok(false);
+        }
+        Ok(true)
+    }
+
+    // The next line of a list whose lines have `N` bytes; none, where the list ends. A line that is cut
+    // short is a wrong one.
+    pub fn read_line<R: Read, const N: usize>(
+        &mut self,
+        file: &mut R,
+    ) -> io::Result<Option<[u8; N]>>
+        ensures counts { IsAfterLine result self.old.counts self.new.counts }
+        ensures bytes { ReadsLine result (R.remaining file.old) (R.remaining file.new) }
+    {
+        let mut line = [0; N];
+        let n = input::fill(file, &mut line)?;
+        if n == N {
+            return Ok(Some(line));
+        }
+        if n > 0 {
+            self.line();
+            self.wrong("cut short");
+        }
+        Ok(None)
     }
 
     // Ends a list whose lines are compared. What was counted besides stands in front.

@@ -43,7 +43,7 @@ impl From<Broken> for Unreadable {
 }
 
 // The lines of a file that are not taken yet. Of the part that was read last, these are the bytes from
-// `at` up to `end`.
+// `at` up to `end`. The part lies in an array, since the programs allocate nothing.
 #[derive(Drop)]
 pub struct Lines<R> {
     reader: R,
