@@ -1,6 +1,7 @@
 -- The cursors that the programs start from, and their cells. Assumes nothing: these are definitions.
 use Rattle.std.specs.Prelude.{ℕ, zero, suc, ◌-◌, Bool, true, false, cond, List, [], ◌∷◌, ◌++◌, set, ltb}
 use Rattle.interp.specs.Machine.{at}
+use Rattle.interp.specs.Values.{bool_word}
 use Rattle.interp.specs.declared.Cursor.{Cursor}
 
 -- a cursor of its parts
@@ -19,6 +20,10 @@ cursor regs ram pc fetch cycles halted output =
 -- the registers, and behind them RAM
 abbrev pub cells_of : Cursor → List ℕ
 cells_of c = c.regs ++ c.ram
+
+-- what is no cell; halted is 1 if it is so
+abbrev pub numbers_of : Cursor → List ℕ
+numbers_of c = c.micro_pc.0 ∷ c.cycles ∷ bool_word c.halted ∷ c.output ∷ c.next_fetch.0 ∷ []
 
 -- n numbers from k on
 abbrev pub up_from : ℕ → ℕ → List ℕ

@@ -6,7 +6,7 @@ ghost use Rattle.std.specs.Prelude.{◌≡◌, ◌+◌, ◌^◌, ◌≤◌, cond
 ghost use Rattle.interp.specs.Machine.{start_of};
 ghost use Rattle.interp.specs.Calls.{outcome_number};
 ghost use Rattle.edges.specs.Compare.{differ_place};
-ghost use Rattle.edges.specs.Cursors.{cells_of, up_from, marked_regs, marked_ram, marked_cursor, at_rows, with_cycles, with_reg, with_ram, with_cell, halted_with};
+ghost use Rattle.edges.specs.Cursors.{numbers_of, cells_of, up_from, marked_regs, marked_ram, marked_cursor, at_rows, with_cycles, with_reg, with_ram, with_cell, halted_with};
 
 use expand::MicroPc;
 use interp::{Cursor, Refusal};
@@ -92,6 +92,21 @@ pub fn cells_of(cursor: Cursor) -> Cells
     cells[..Cursor::REGS].copy_from_slice(&cursor.regs);
     cells[Cursor::REGS..].copy_from_slice(&cursor.ram);
     cells
+}
+
+// The names of a cursor's numbers, in their order.
+pub const NUMBERS: [&str; 5] = ["micro_pc", "cycles", "halted", "output", "next_fetch"];
+
+pub fn numbers_of(cursor: Cursor) -> [u64; 5]
+    ensures { result ≡ numbers_of cursor }
+{
+    [
+        cursor.micro_pc.0 as u64,
+        cursor.cycles,
+        u64::from(cursor.halted),
+        cursor.output,
+        cursor.next_fetch.0 as u64,
+    ]
 }
 
 pub fn fresh() -> Cursor
