@@ -33,7 +33,7 @@ enum Phase {
     First,
     // A list: the one before is given up, and its lines are passed over.
     List,
-    // A word of the program, of `words`; `inputs` words of input follow.
+    // A word of the program, of `words`, before `inputs` words of input.
     Word { words: u64, inputs: u64 },
     // A word of the input, of so many.
     Input(u64),
@@ -146,10 +146,8 @@ impl Run {
     fn expand(&mut self) -> Result<(), Fault> {
         let mut rows = ArrayVec::from([0u64; MAX_ROWS]);
         let mut starts = [0u64; MAX_WORDS];
-        let count = expand::expand_program(&self.program, rows.as_mut_slice(), &mut starts).map_err(
-            |_| "the program is not expanded",
-        )?;
-        rows.truncate(count);
+        let made = expand::expand_program(&self.program, rows.as_mut_slice(), &mut starts);
+        rows.truncate(made.map_err(|_| "the program is not expanded")?);
         self.rows = rows;
         Ok(())
     }
