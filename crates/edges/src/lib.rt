@@ -1,17 +1,16 @@
-// What the programs that run calls and compare have in common: cursors, their cells, and words about
-// what was compared.
+// What the programs that run calls and compare have in common: the rows of a register shift, cursors,
+// their cells, and words about what was compared.
 #![tactic(auto)]
 
-ghost use Rattle.std.specs.Prelude.{◌≡◌, get_or, take, []};
-ghost use Rattle.interp.specs.Values.{bool_word};
+ghost use Rattle.std.specs.Prelude.{◌≡◌, ◌+◌, ◌^◌, ◌≤◌, cond, take, set, ltb, []};
 ghost use Rattle.interp.specs.Machine.{start_of};
 ghost use Rattle.interp.specs.Calls.{outcome_number};
-ghost use Rattle.edges.specs.Compare.{differ_from};
-ghost use Rattle.edges.specs.Cursors.{cells_of, marked_regs, marked_ram, marked_cursor, at_rows, with_cycles, with_reg, with_ram, with_cell, halted_with};
+ghost use Rattle.edges.specs.Compare.{differ_place};
+ghost use Rattle.edges.specs.Cursors.{cells_of, up_from, marked_regs, marked_ram, marked_cursor, at_rows, with_cycles, with_reg, with_ram, with_cell, halted_with};
 
 use expand::MicroPc;
-use interp::{Cursor, Outcome};
-use report::{Console, say, say_number};
+use interp::{Cursor, Refusal};
+use report::Console;
 
 // What a place of a record buffer holds before a call.
 pub const GUARD: u64 = 0xa5a5_a5a5_a5a5_a5a5;
@@ -22,86 +21,66 @@ pub const CELLS: usize = Cursor::REGS + Cursor::RAM_WORDS;
 
 pub type Cells = [u64; CELLS];
 
+// sll x3,x1,x2, and the row words of its six stages.
+pub const SLL: u32 = 0x0020_91b3;
+
+pub const STAGES: [u64; 6] = [
+    0x0_0020_91b3,
+    0x1_0020_91b3,
+    0x2_0020_91b3,
+    0x3_0020_91b3,
+    0x4_0020_91b3,
+    0x5_0020_91b3,
+];
+
 // ---- comparing
 
-pub fn number_of(outcome: Outcome) -> u64
+// The number that a call returns: 0 is accepted.
+pub fn number_of<T: Copy>(outcome: Result<T, Refusal>) -> u64
     ensures { result ≡ outcome_number outcome }
 {
     match outcome {
-        Outcome::Accepted => 0,
-        Outcome::Refused(e) => e.number(),
+        Ok(_) => 0,
+        Err(why) => u64::from(why),
     }
-}
-
-pub fn bit(b: bool) -> u64
-    ensures { result ≡ bool_word b }
-{
-    if b { 1 } else { 0 }
 }
 
 // Says a number that is not the expected one, and answers whether it is.
-pub fn say_wrong(to: Console, what: &[u8], want: u64, found: u64) -> bool {
-    if want == found {
-        return true;
+pub fn say_wrong(to: Console, what: &str, want: u64, found: u64) -> bool {
+    if want != found {
+        to.say(format_args!(", WRONG {what} {found}, expected {want}"));
     }
-    say(to, b", WRONG ");
-    say(to, what);
-    say_number(to, found);
-    say(to, b", expected ");
-    say_number(to, want);
-    false
+    want == found
 }
 
-// What place `i` holds of a list that goes on with `rest`.
-pub fn place(list: &[u64], rest: u64, i: usize) -> u64
-    ensures { result ≡ get_or list.now i rest }
+// The first place of `found` that does not hold what `want` has there, or `rest` past it.
+#[tactic(auto, using(crate::proofs::Lists::same_here, crate::proofs::Lists::other_here, crate::proofs::Lists::none_left))]
+fn differ_at(want: &[u64], rest: u64, found: &[u64]) -> Option<usize>
+    ensures { result ≡ differ_place want.now rest found.now }
 {
-    if i < list.len() { list[i] } else { rest }
-}
-
-// The first place of `found` that does not hold what `want` has there, or `rest` past it; the length of
-// `found` where there is none.
-fn differ_at(want: &[u64], rest: u64, found: &[u64]) -> usize
-    ensures { result ≡ differ_from 0 want.now rest found.now }
-{
-    let mut i = 0;
-    while i < found.len() {
-        if found[i] != place(want, rest, i) {
-            return i;
+    for i in 0..found.len() {
+        if found[i] != want.get(i).copied().unwrap_or(rest) {
+            return Some(i);
         }
-        i += 1;
     }
-    i
+    None
 }
 
 // Says the first place where `found` is not `want` and then `rest`, and answers whether there is none.
-pub fn say_differs(to: Console, what: &[u8], want: &[u64], rest: u64, found: &[u64]) -> bool {
-    let at = differ_at(want, rest, found);
-    if at < found.len() {
-        return say_place_wrong(to, what, at);
+pub fn say_differs(to: Console, what: &str, want: &[u64], rest: u64, found: &[u64]) -> bool {
+    let missing = (found.len() < want.len()).then_some(found.len());
+    let wrong = differ_at(want, rest, found).or(missing);
+    if let Some(at) = wrong {
+        to.say(format_args!(", WRONG {what} {at}"));
     }
-    if found.len() < want.len() {
-        return say_place_wrong(to, what, at);
-    }
-    true
-}
-
-fn say_place_wrong(to: Console, what: &[u8], at: usize) -> bool {
-    say(to, b", WRONG ");
-    say(to, what);
-    say_number(to, at as u64);
-    false
+    wrong.is_none()
 }
 
 // The first `count` places; all of them, where there are no more.
-pub fn first_of(places: &[u64], count: usize) -> &[u64]
+pub fn first_of<T>(places: &[T], count: usize) -> &[T]
     ensures { result.now ≡ take count places.now }
 {
-    if count < places.len() {
-        &places[0..count]
-    } else {
-        places
-    }
+    &places[..count.min(places.len())]
 }
 
 // ---- cursors
@@ -109,44 +88,43 @@ pub fn first_of(places: &[u64], count: usize) -> &[u64]
 pub fn cells_of(cursor: Cursor) -> Cells
     ensures { result ≡ cells_of cursor }
 {
-    let regs = cursor.regs;
-    let ram = cursor.ram;
     let mut cells = [0u64; CELLS];
-    for i in 0..CELLS {
-        cells[i] = if i < Cursor::REGS {
-            regs[i]
-        } else {
-            ram[i - Cursor::REGS]
-        };
-    }
+    cells[..Cursor::REGS].copy_from_slice(&cursor.regs);
+    cells[Cursor::REGS..].copy_from_slice(&cursor.ram);
     cells
 }
 
 pub fn fresh() -> Cursor
     ensures { result ≡ start_of [] }
 {
-    let none = [0u64; 0];
-    Cursor::start(&none)
+    Cursor::start(&[])
+}
+
+// N numbers from `first` on.
+#[tactic(auto, using(crate::proofs::Lists::stored, crate::proofs::Lists::all_stored))]
+fn up_from<const N: usize>(first: u64) -> [u64; N]
+    requires { first + N ≤ 2 ^ 64 }
+    ensures { result ≡ up_from N first }
+{
+    let mut numbers = [0u64; N];
+    for i in 0..N {
+        numbers[i] = first + i as u64;
+    }
+    numbers
 }
 
 fn marked_regs() -> [u64; Cursor::REGS]
     ensures { result ≡ marked_regs }
 {
-    let mut regs = [0u64; Cursor::REGS];
-    for i in 1..Cursor::REGS {
-        regs[i] = 30 + i as u64;
-    }
+    let mut regs = up_from(30);
+    regs[0] = 0;
     regs
 }
 
 fn marked_ram() -> [u64; Cursor::RAM_WORDS]
     ensures { result ≡ marked_ram }
 {
-    let mut ram = [0u64; Cursor::RAM_WORDS];
-    for i in 0..Cursor::RAM_WORDS {
-        ram[i] = 94 + i as u64;
-    }
-    ram
+    up_from(94)
 }
 
 // A live cursor after 3 cycles with output 9, in which no two cells are the same: x5 is 35, x10 is
@@ -154,11 +132,9 @@ fn marked_ram() -> [u64; Cursor::RAM_WORDS]
 pub fn marked() -> Cursor
     ensures { result ≡ marked_cursor }
 {
-    let regs = marked_regs();
-    let ram = marked_ram();
     Cursor {
-        regs,
-        ram,
+        regs: marked_regs(),
+        ram: marked_ram(),
         micro_pc: MicroPc(0),
         cycles: 3,
         halted: false,
@@ -170,41 +146,45 @@ pub fn marked() -> Cursor
 pub fn at(cursor: Cursor, pc: usize, fetch: usize) -> Cursor
     ensures { result ≡ at_rows cursor pc fetch }
 {
-    let mut after = cursor;
-    let micro_pc = MicroPc(pc);
-    let next_fetch = MicroPc(fetch);
-    after.micro_pc = micro_pc;
-    after.next_fetch = next_fetch;
-    after
+    Cursor {
+        micro_pc: MicroPc(pc),
+        next_fetch: MicroPc(fetch),
+        ..cursor
+    }
 }
 
 pub fn with_cycles(cursor: Cursor, cycles: u64) -> Cursor
     ensures { result ≡ with_cycles cursor cycles }
 {
-    let mut after = cursor;
-    after.cycles = cycles;
-    after
+    Cursor { cycles, ..cursor }
 }
 
 // There is no cell past the last, and nothing to set.
+fn with<const N: usize>(mut cells: [u64; N], i: usize, value: u64) -> [u64; N]
+    ensures { result ≡ cond (ltb i N) (set cells.entry i value) cells.entry }
+{
+    if i < N {
+        cells[i] = value;
+    }
+    cells
+}
+
 pub fn with_reg(cursor: Cursor, i: usize, value: u64) -> Cursor
     ensures { result ≡ with_reg cursor i value }
 {
-    let mut after = cursor;
-    if i < Cursor::REGS {
-        after.regs[i] = value;
+    Cursor {
+        regs: with(cursor.regs, i, value),
+        ..cursor
     }
-    after
 }
 
 pub fn with_ram(cursor: Cursor, i: usize, value: u64) -> Cursor
     ensures { result ≡ with_ram cursor i value }
 {
-    let mut after = cursor;
-    if i < Cursor::RAM_WORDS {
-        after.ram[i] = value;
+    Cursor {
+        ram: with(cursor.ram, i, value),
+        ..cursor
     }
-    after
 }
 
 pub fn with_cell(cursor: Cursor, place: usize, value: u64) -> Cursor
@@ -219,8 +199,9 @@ pub fn with_cell(cursor: Cursor, place: usize, value: u64) -> Cursor
 pub fn halted(cursor: Cursor, output: u64) -> Cursor
     ensures { result ≡ halted_with cursor output }
 {
-    let mut after = cursor;
-    after.halted = true;
-    after.output = output;
-    after
+    Cursor {
+        halted: true,
+        output,
+        ..cursor
+    }
 }
