@@ -1,7 +1,8 @@
 -- What the program `trace` prints for its input (01, "Execute, sameness, program"). An input is the list of its bytes.
 -- Assumes nothing: these are definitions.
-use Rattle.std.specs.Prelude.{ℕ, zero, suc, ◌+◌, ◌-◌, ◌*◌, ◌/◌, ◌%◌, ◌^◌, Bool, cond, not, ◌||◌, List, [], ◌∷◌, eqb, ltb, length, get_or, replicate}
+use Rattle.std.specs.Prelude.{ℕ, zero, suc, ◌+◌, ◌-◌, ◌*◌, ◌/◌, ◌%◌, ◌^◌, Bool, cond, not, ◌||◌, List, [], ◌∷◌, eqb, ltb, length, get_or, replicate, Result, Ok, Err}
 use Rattle.expand.specs.Expand.{expansion_of}
+use Rattle.interp.specs.declared.Execution.{Execution}
 use Rattle.interp.specs.Execute.{Executed, execute_of}
 use Rattle.lines.specs.Lines.{answer_text, refused_text}
 
@@ -20,6 +21,12 @@ words_from (suc n) i bytes = word_at bytes i ∷ words_from n (i + 1) bytes
 unfoldable pub inputs_from : ℕ → ℕ → List ℕ → List ℕ
 inputs_from zero i bytes = []
 inputs_from (suc n) i bytes = (word_at bytes i + 2 ^ 32 * word_at bytes (i + 1)) ∷ inputs_from n (i + 2) bytes
+
+-- the input words that every two words are, low half first; one more word is none
+unfoldable pub pairs_of : List ℕ → List ℕ
+pairs_of [] = []
+pairs_of (low ∷ []) = []
+pairs_of (low ∷ high ∷ ws) = (low + 2 ^ 32 * high) ∷ pairs_of ws
 
 -- max_cycles
 abbrev pub max_cycles : List ℕ → ℕ
@@ -51,6 +58,11 @@ program_of bytes = words_from (length bytes / 4 - (2 + 2 * input_count bytes)) (
 -- execute, with room for 256 records
 abbrev pub run_of : List ℕ → List ℕ → ℕ → Executed
 run_of rows input max = execute_of rows input max (replicate 4352 0)
+
+-- the text of what comes of a run: its answer, or the number of the refusal
+abbrev pub text_of : Result Execution ℕ → List ℕ → List ℕ
+text_of (Ok done) records = answer_text done.live_count done.record_count done.cursor.output records
+text_of (Err number) records = refused_text number
 
 -- what runs: the program's expansion; a program with no words has no rows, which is refusal 1
 abbrev pub ran_of : List ℕ → Executed

@@ -1,22 +1,13 @@
 -- `trace_answer::answer` meets its contract. Assumes nothing.
 use mathlib.Core.Path.{ap, sym, ◌∙◌}
-use Prim.Native.Nat.{◌+◌, ◌-◌, ◌*◌, ◌/◌, ◌≤◌}
+use Prim.Native.Nat.{◌+◌, ◌*◌, ◌/◌}
 use native.Mathlib.Omega.{arith}
-use lib.ListN.{length, take}
-use lib.Seq.{length-take-le, take_at}
-use Rattle.trace_answer.specs.Trace.{words_from, inputs_from, trace_of}
-use Rattle.trace_answer.proofs.Laws.{formed, words-length, inputs_length}
-use Rattle.trace_answer.proofs.answer.Goals.{After-word_at-k}
+use lib.ListN.{length, take, drop, get_or, length-take}
+use lib.Seq.{length-take-le}
+use Rattle.trace_answer.specs.Trace.{trace_of}
+use Rattle.trace_answer.proofs.Laws.{Parts, parts, formed, inputs-of, drop-words}
+use Rattle.trace_answer.proofs.answer.Goals.{Else-is_malformed, After-fill_words}
 use Rattle.trace_answer.proofs.answer.Goals as goal
-
--- the input words, the program and max_cycles are within their bounds
-within : (c : After-word_at-k)
-    → (8 + 8 * c.word_at-k.result ≤ length c.args.bytes.now)
-    × (length c.args.bytes.now ≤ 4096)
-    × (c.word_at-max.result ≤ 256)
-within c =
-    let f = formed c.args.bytes.now (sym c.is_malformed.ensures ∙ c.if-is_malformed.false) in
-    (omega (arith, c.word_at-k.ensures, f.enough), f.few, omega (arith, c.word_at-max.ensures, f.short))
 
 pub returns-then-is_malformed : goal.returns-then-is_malformed
 unfolding trace_of
@@ -24,49 +15,46 @@ returns-then-is_malformed c =
     let yes = sym c.is_malformed.ensures ∙ c.if-is_malformed.true in
     record { length = rw yes c.put_refused.ensures.length; text = rw yes c.put_refused.ensures.text }
 
-pub word_at-max-requires : goal.word_at-max-requires
-word_at-max-requires c = omega (arith, (formed c.args.bytes.now (sym c.is_malformed.ensures ∙ c.if-is_malformed.false)).enough)
+pub fill_words-requires : goal.fill_words-requires
+fill_words-requires c = omega (arith, formed c.args.bytes.now (sym c.is_malformed.ensures ∙ c.if-is_malformed.false))
 
-pub word_at-k-requires : goal.word_at-k-requires
-word_at-k-requires c = omega (arith, (formed c.args.bytes.now (sym c.is_malformed.ensures ∙ c.if-is_malformed.false)).enough)
+parts_of : (c : After-fill_words) → Parts c.args.bytes.now c.fill_words.new.words
+parts_of c = parts c.args.bytes.now _ _ (sym c.is_malformed.ensures ∙ c.if-is_malformed.false) c.fill_words.ensures
 
-pub overflow_sub-n : goal.overflow_sub-n
-overflow_sub-n c = omega (arith, within (goal.at.overflow_sub-n c).After-word_at-k)
+pub overflow_cast-k : goal.overflow_cast-k
+overflow_cast-k c = omega (arith, parts_of (goal.at.overflow_cast-k c).After-fill_words)
 
-pub fill_input-requires : goal.fill_input-requires
-fill_input-requires c = let w = within (goal.at.fill_input-requires c).After-word_at-k in (w.0, omega (arith, w))
+pub slice_bounds-words-end : goal.slice_bounds-words-end
+slice_bounds-words-end c = omega (arith, parts_of (goal.at.slice_bounds-words-end c).After-fill_words, c.fill_words.auto)
 
-pub fill_program-requires : goal.fill_program-requires
-fill_program-requires c = let w = within (goal.at.fill_program-requires c).After-word_at-k in (omega (arith, w), omega (arith, w))
+pub slice_bounds-split_at-end : goal.slice_bounds-split_at-end
+slice_bounds-split_at-end c = sym (length-take-le _ _ (omega (arith, parts_of (goal.at.slice_bounds-split_at-end c).After-fill_words, c.fill_words.auto)))
 
-pub slice_bounds-program-end : goal.slice_bounds-program-end
-slice_bounds-program-end c = omega (arith, within (goal.at.slice_bounds-program-end c).After-word_at-k, c.fill_program.auto)
+pub overflow_mul-k : goal.overflow_mul-k
+overflow_mul-k c = omega (arith, parts_of (goal.at.overflow_mul-k c).After-fill_words)
 
-pub slice_bounds-input-end : goal.slice_bounds-input-end
-slice_bounds-input-end c =
-    omega (arith, within (goal.at.slice_bounds-input-end c).After-word_at-k, c.fill_input.auto)
+pub overflow_add-k : goal.overflow_add-k
+overflow_add-k c = omega (arith, parts_of (goal.at.overflow_add-k c).After-fill_words)
 
-pub slice_bounds-put_program-end : goal.slice_bounds-put_program-end
-slice_bounds-put_program-end c = sym (length-take-le _ _ (omega (arith, within (goal.at.slice_bounds-put_program-end c).After-word_at-k, c.fill_program.auto)))
+pub split_at-requires : goal.split_at-requires
+split_at-requires c = omega (arith, parts_of (goal.at.split_at-requires c).After-fill_words, c.fill_words.auto, length-take (length c.args.bytes.now / 4) c.fill_words.new.words)
 
-pub slice_bounds-put_program-end-2 : goal.slice_bounds-put_program-end-2
-slice_bounds-put_program-end-2 c = sym (length-take-le _ _ (omega (arith, within (goal.at.slice_bounds-put_program-end-2 c).After-word_at-k, c.fill_input.auto)))
-
-pub put_program-requires : goal.put_program-requires
-put_program-requires c =
-    let w = within (goal.at.put_program-requires c).After-word_at-k in
-    (omega (arith, w, length-take-le (length c.args.bytes.now / 4 - (2 + 2 * c.word_at-k.result)) c.fill_program.new.program (omega (arith, w, c.fill_program.auto))), w.2)
+pub put_run-requires : goal.put_run-requires
+put_run-requires c =
+    let p = parts_of (goal.at.put_run-requires c).After-fill_words in
+    (omega (arith, p, c.split_at.ensures.back_len, c.fill_words.auto, length-take (length c.args.bytes.now / 4) c.fill_words.new.words), omega (arith, c.from-max.ensures, p))
 
 pub returns : goal.returns
 unfolding trace_of
 returns c =
     let bytes = c.args.bytes.now in
-    let k = c.word_at-k.result in
-    let n = length bytes / 4 - (2 + 2 * k) in
-    let program = ap (take n) c.fill_program.ensures ∙ take_at (words_from n (2 + 2 * k) bytes) _ n (words-length n (2 + 2 * k) bytes) in
-    let input = ap (take k) c.fill_input.ensures ∙ take_at (inputs_from k 2 bytes) _ k (inputs_length k 2 bytes) in
+    let n = length bytes / 4 in
+    let k = get_or c.fill_words.new.words 1 0 in
     let no = (sym c.is_malformed.ensures ∙ c.if-is_malformed.false) in
+    let p = parts_of (goal.at.returns c).After-fill_words in
+    let program = c.split_at.ensures.back ∙ ap (drop (2 + 2 * k)) p.all ∙ drop-words bytes (2 + 2 * k) n p.enough in
+    let input = inputs-of bytes c.split_at.result.0.now c.fill_input.new.input _ k p.enough (c.split_at.ensures.front ∙ ap (take (2 + 2 * k)) p.all) c.fill_input.ensures in
     record {
-      length = rw (no, ← c.word_at-k.ensures, ← c.word_at-max.ensures, ← program, ← input) c.put_program.ensures.length;
-      text = rw (no, ← c.word_at-k.ensures, ← c.word_at-max.ensures, ← program, ← input) c.put_program.ensures.text;
+      length = rw (no, ← p.count, ← p.max, ← input, ← program, ← c.from-max.ensures) c.put_run.ensures.length;
+      text = rw (no, ← p.count, ← p.max, ← input, ← program, ← c.from-max.ensures) c.put_run.ensures.text;
     }

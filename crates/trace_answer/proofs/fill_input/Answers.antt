@@ -1,27 +1,22 @@
 -- `trace_answer::fill_input` meets its contract. Assumes nothing.
-use mathlib.Core.Path.{◌≡◌, sym}
+use mathlib.Core.Path.{◌≡◌, ◌∙◌}
+use Prim.Native.Nat.{◌+◌, ◌*◌, ◌%◌, ◌^◌}
 use native.Mathlib.Omega.{arith}
-use Rattle.trace_answer.specs.Trace.{inputs_from}
-use Rattle.trace_answer.proofs.Laws.{first_none, first_next, first-length, inputs_next}
+use lib.ListN.{get_or}
+use Rattle.trace_answer.proofs.Laws.{one_filled, all_filled, chunk_reads, pairs-next, pairs-none}
 use Rattle.trace_answer.proofs.fill_input.Goals as goal
-
-pub loop-i-init : goal.loop-i-init
-unfolding inputs_from
-loop-i-init c = (omega arith, first_none _)
-
-pub bounds-input-i : goal.bounds-input-i
-bounds-input-i c = omega (arith, first-length c.loop-i.invariant.1)
 
 pub loop-i-preserved : goal.loop-i-preserved
 loop-i-preserved c =
     let l = c.loop-i in
-    let a = c.args in
-    (omega arith, rw (c.word_at-low.ensures, c.word_at-high.ensures, inputs_next l.i 2 a.bytes.now) (first_next _ l.invariant.1 (omega arith)))
+    let ws = c.args.words.now in
+    let low = c.from.ensures ∙ chunk_reads 2 ws l.i 0 (2 * l.i) c.as_chunks.ensures.front (omega arith) (omega arith) (omega arith) in
+    let high = c.from-in-loop-i.ensures ∙ chunk_reads 2 ws l.i 1 (2 * l.i + 1) c.as_chunks.ensures.front (omega arith) (omega arith) (omega arith) in
+    let value : c.from.result + c.from-in-loop-i.result * 4294967296 % 18446744073709551616 ≡ get_or ws (2 * l.i) 0 + 2 ^ 32 * get_or ws (2 * l.i + 1) 0 =
+    omega (arith, low, high, c.type_inv.words (2 * l.i + 1)) in
+    rw value (one_filled _ l.invariant (pairs-next ws l.i (omega arith)) (omega arith))
 
 pub returns : goal.returns
 returns c =
-    let e : c.loop-i.i ≡ c.args.k = omega arith in
-    rw (sym e) c.loop-i.invariant.1.stand
-
-pub shape_of-input : goal.shape_of-input
-shape_of-input c = first-length c.loop-i.invariant.1
+    let l = c.loop-i in
+    all_filled _ (rw (pairs-none c.args.words.now l.i (omega arith)) at l.invariant) (omega arith)

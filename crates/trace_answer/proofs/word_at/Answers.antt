@@ -1,7 +1,8 @@
 -- `trace_answer::word_at` meets its contract. Assumes nothing.
-use Rattle.trace_answer.specs.Trace.{word_at}
+use mathlib.Core.Path.{◌∙◌}
+use native.Mathlib.Omega.{arith}
+use Rattle.trace_answer.proofs.Laws.{word_is}
 use Rattle.trace_answer.proofs.word_at.Goals as goal
 
 pub returns : goal.returns
-unfolding word_at
-returns c = c.word_of.ensures
+returns c = c.from_le_bytes.ensures ∙ word_is c.args.bytes.now c.args.i c.as_chunks.ensures.front (omega arith)
