@@ -1,36 +1,25 @@
-// Takes a list of calls apart, line by line. A line is a letter and then numbers in lower-case
-// hexadecimal digits, without leading zeros and with a single space before each.
+// Takes a line of a list of calls apart: a letter and then numbers in lower-case hexadecimal digits,
+// without leading zeros and with a single space before each.
 #![tactic(auto)]
 
-ghost use Rattle.std.specs.Prelude.{◌≡◌, ◌≤◌, length, drop};
-ghost use Rattle.calls.specs.Parse.{no_number, digits_from, spaced_number, bad_line, parsed, is_line, place_of};
+ghost use Rattle.std.specs.Prelude.{◌≡◌, ◌<◌, ◌≤◌, IfSome, [], length, drop};
+ghost use Rattle.std.specs.Option.{option_map};
+ghost use Rattle.calls.specs.Parse.{digits_from, spaced_number, numbers_from, parsed, values_of, is_line, place_of};
 
-use edges::CELLS;
+use arrayvec::ArrayVec;
 use listing::hex_value;
-use std::io::Read;
-use text_lines::{Next, Text, Unread};
 
 // The most numbers of a line.
 pub const NUMBERS: usize = 17;
 
-// A letter and the numbers after it. A line of another form has the count 18, and letter 0 where it
-// is empty.
-#[derive(Clone, Copy)]
+// A letter, 0 where the line is empty, and the numbers behind it; none, where they have another form.
+#[derive(Drop)]
 pub struct Line {
     pub letter: u8,
-    pub count: usize,
-    pub values: [u64; NUMBERS],
+    pub numbers: Option<ArrayVec<u64, NUMBERS>>,
 }
 
-// What came next; the line, where it is one; and what is left of the text.
-#[derive(Clone, Copy)]
-pub struct Taken {
-    pub next: Next,
-    pub line: Line,
-    pub unread: Unread,
-}
-
-// A number of a line, and the place after it; place 0 where there is none.
+// A number of a line, and the place behind it.
 #[derive(Clone, Copy)]
 struct Number {
     value: u64,
@@ -38,144 +27,118 @@ struct Number {
 }
 
 impl Line {
-    fn bad(letter: u8) -> Line
-        ensures { result ≡ bad_line letter }
+    // The numbers as a slice, so that a `match` tells how many there are.
+    pub fn values(&self) -> Option<&[u64]>
+        ensures { option_map (λ v. v.now) result ≡ values_of self.now }
     {
-        Line {
-            letter,
-            count: NUMBERS + 1,
-            values: [0; NUMBERS],
+        match &self.numbers {
+            Some(numbers) => Some(numbers.as_slice()),
+            None => None,
         }
     }
-}
-
-fn no_number() -> Number
-    ensures { result ≡ no_number }
-{
-    Number { value: 0, after: 0 }
 }
 
 // The number that the digits from `at` on give, up to a character that is none.
-fn digits_at(line: &[u8], at: usize) -> Number
+fn digits_at(line: &[u8], at: usize) -> Option<Number>
     requires { at ≤ length line.now }
     ensures number { result ≡ digits_from 0 at (drop at line.now) }
-    ensures inside { result.after ≤ length line.now }
+    ensures inside { IfSome result (λ n. (at ≤ n.after) × (n.after ≤ length line.now)) }
 {
     let mut value: u64 = 0;
-    let mut i = at;
-    while i < line.len() {
-        let d = hex_value(line[i]);
-        if d == 16 {
-            return Number { value, after: i };
-        }
+    for i in at..line.len() {
+        let Some(d) = hex_value(line[i]) else {
+            return Some(Number { value, after: i });
+        };
         if value >= 0x1000_0000_0000_0000 {
-            return no_number();
+            return None;
         }
         value = value * 16 + d as u64;
-        i += 1;
     }
-    Number {
+    Some(Number {
         value,
         after: line.len(),
-    }
+    })
 }
 
 // The number behind the space at `at`. Only 0 begins with the digit 0.
-fn number_at(line: &[u8], at: usize) -> Number
+fn number_at(line: &[u8], at: usize) -> Option<Number>
     requires { at ≤ length line.now }
     ensures number { result ≡ spaced_number at (drop at line.now) }
-    ensures inside { result.after ≤ length line.now }
+    ensures inside { IfSome result (λ n. (at < n.after) × (n.after ≤ length line.now)) }
 {
-    let rest = &line[at..];
-    if rest.len() < 2 {
-        return no_number();
+    let [space, first, ..] = &line[at..] else {
+        return None;
+    };
+    if *space != b' ' {
+        return None;
     }
-    if rest[0] != b' ' {
-        return no_number();
+    hex_value(*first)?;
+    let number = digits_at(line, at + 1)?;
+    if *first == b'0' && number.after != at + 2 {
+        return None;
     }
-    if hex_value(rest[1]) == 16 {
-        return no_number();
+    Some(number)
+}
+
+// The numbers behind the letter of a line.
+fn numbers_of(line: &[u8]) -> Option<ArrayVec<u64, NUMBERS>>
+    requires { 0 < length line.now }
+    ensures { result ≡ numbers_from 17 line.now [] 1 }
+{
+    let mut values = ArrayVec::new();
+    let mut at = 1;
+    while at < line.len() {
+        let number = number_at(line, at)?;
+        if values.is_full() {
+            return None;
+        }
+        values.push(number.value);
+        at = number.after;
     }
-    let number = digits_at(line, at + 1);
-    if rest[1] == b'0' && number.after != at + 2 {
-        return no_number();
-    }
-    number
+    Some(values)
 }
 
 // The line that some bytes are, without the line feed.
-fn line_of(bytes: &[u8]) -> Line
+pub fn line_of(bytes: &[u8]) -> Line
     ensures { result ≡ parsed bytes.now }
 {
-    if bytes.len() == 0 {
-        return Line::bad(0);
-    }
-    let letter = bytes[0];
-    let mut values = [0u64; NUMBERS];
-    let mut count = 0;
-    let mut at = 1;
-    while at < bytes.len() {
-        let number = number_at(bytes, at);
-        if number.after <= at {
-            return Line::bad(letter);
-        }
-        if count == NUMBERS {
-            return Line::bad(letter);
-        }
-        values[count] = number.value;
-        count += 1;
-        at = number.after;
-    }
+    let [letter, ..] = bytes else {
+        return Line {
+            letter: 0,
+            numbers: None,
+        };
+    };
     Line {
-        letter,
-        count,
-        values,
+        letter: *letter,
+        numbers: numbers_of(bytes),
     }
 }
 
-pub fn is_line(line: Line, letter: u8, count: usize) -> bool
-    ensures { result ≡ is_line line letter count }
+// Whether a line has this letter and so many numbers.
+pub fn is_line(line: &Line, letter: u8, count: usize) -> bool
+    ensures { result ≡ is_line line.now letter count }
 {
-    if line.letter == letter {
-        line.count == count
-    } else {
-        false
+    match line.values() {
+        Some(values) => line.letter == letter && values.len() == count,
+        None => false,
     }
 }
 
 // The place of the cell that a line of `count` numbers names first, a register after the letter
-// `register` and a RAM word after `word`; CELLS where it names none.
-pub fn place_of(line: Line, register: u8, word: u8, count: usize) -> usize
-    ensures place { result ≡ place_of line register word count }
-    ensures bound { result ≤ 320 }
+// `register` and a RAM word after `word`.
+pub fn place_of(line: &Line, register: u8, word: u8, count: usize) -> Option<usize>
+    ensures place { result ≡ place_of line.now register word count }
+    ensures bound { IfSome result (λ p. p < 320) }
 {
-    let i = line.values[0];
-    if is_line(line, register, count) {
-        if i < 64 {
-            return i as usize;
-        }
+    let i = match line.values() {
+        Some([i, ..]) => *i,
+        _ => 0,
+    };
+    if is_line(line, register, count) && i < 64 {
+        return Some(i as usize);
     }
-    if is_line(line, word, count) {
-        if i < 256 {
-            return i as usize + 64;
-        }
+    if is_line(line, word, count) && i < 256 {
+        return Some(i as usize + 64);
     }
-    CELLS
-}
-
-// Takes the next line of a file.
-pub fn take_line<R: Read>(reader: &mut R, text: &mut Text, unread: Unread) -> Taken
-    ensures { (result.unread.at ≤ result.unread.end) × (result.unread.end ≤ 65536) }
-{
-    let taken = text_lines::take_text(reader, text, unread);
-    let next = taken.next;
-    let rest = taken.unread;
-    let start = taken.start;
-    let stop = taken.stop;
-    let all = &text[..];
-    Taken {
-        next,
-        line: line_of(&all[start..stop]),
-        unread: rest,
-    }
+    None
 }

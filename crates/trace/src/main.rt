@@ -1,7 +1,6 @@
 // The program trace: it reads its input, answers it and writes the answer's text.
 #![tactic(auto)]
 
-use std::io;
 use std::io::Print;
 
 // Reads the input, and answers in one write. It reads one byte more than an input may have: one that

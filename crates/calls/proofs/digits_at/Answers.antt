@@ -1,49 +1,27 @@
-use mathlib.Core.Path.{◌≡◌, refl, sym, ap, ◌∙◌}
-use native.Mathlib.Omega.{arith}
-use lib.ListN.{length}
-use Rattle.calls.specs.declared.Number.{Number}
+use Rattle.std.proofs.Common.{◌≡◌, sym, ap, ◌∙◌, length, arith}
 use Rattle.calls.specs.Parse.{number_up_to}
 use Rattle.calls.proofs.Turns.{digits-end, digits_large, digits_on, digits_past}
 use Rattle.calls.proofs.digits_at.Goals as goal
 
-pub returns-then-d-eq16 : goal.returns-then-d-eq16
-returns-then-d-eq16 c =
-    let a = c.args in
-    let at = c.loop-i in
-    let end = digits-end a.line.now at.value at.i c.hex_value-d.result (omega arith) c.hex_value-d.ensures.value c.if-d-eq16.true in
-    record {
-      number = sym end ∙ at.invariant.1;
-      inside = at.invariant.0;
-    }
+pub returns-in_default-clause-number : goal.returns-in_default-clause-number
+returns-in_default-clause-number c =
+    let l = c.loop-i in
+    sym (digits-end c.args.line.now l.value l.i (omega arith) (sym c.hex_value.ensures.value ∙ c.in_default.is)) ∙ l.invariant
 
-pub returns-then-value-ge1152921504606846976 : goal.returns-then-value-ge1152921504606846976
-returns-then-value-ge1152921504606846976 c =
-    let a = c.args in
-    let at = c.loop-i in
-    let digit = c.hex_value-d in
-    let large = digits_large a.line.now at.value at.i digit.result (omega arith) digit.ensures.value c.if-d-eq16.false c.if-value-ge1152921504606846976.true in
-    record {
-      number = c.no_number.ensures ∙ sym large ∙ at.invariant.1;
-      inside = omega (arith, ap (λ (n : Number). n.after) c.no_number.ensures);
-    }
+pub returns-then-value-ge1152921504606846976-clause-number : goal.returns-then-value-ge1152921504606846976-clause-number
+returns-then-value-ge1152921504606846976-clause-number c =
+    let l = c.loop-i in
+    let told = sym c.hex_value.ensures.value ∙ c.in-Some.is in
+    sym (digits_large c.args.line.now l.value l.i (omega arith) c.in-Some.d told (omega arith)) ∙ l.invariant
 
 pub loop-i-preserved : goal.loop-i-preserved
 loop-i-preserved c =
-    let a = c.args in
-    let at = c.loop-i in
-    let digit = c.hex_value-d in
-    let on = digits_on a.line.now at.value at.i digit.result (omega arith) digit.ensures.value c.if-d-eq16.false c.if-value-ge1152921504606846976.false in
-    (omega arith, sym on ∙ at.invariant.1)
+    let l = c.loop-i in
+    let told = sym c.hex_value.ensures.value ∙ c.in-Some.is in
+    sym (digits_on c.args.line.now l.value l.i (omega arith) c.in-Some.d told (omega arith)) ∙ l.invariant
 
-pub returns : goal.returns
-returns c =
-    let a = c.args in
-    let at = c.loop-i in
-    let all : length a.line.now ≡ at.i = omega arith in
-    record {
-      number = ap (number_up_to at.value) all ∙ sym (digits_past a.line.now at.value at.i (omega arith)) ∙ at.invariant.1;
-      inside = omega arith;
-    }
-
-pub loop-i-init : goal.loop-i-init
-loop-i-init c = (omega arith, refl)
+pub returns-clause-number : goal.returns-clause-number
+returns-clause-number c =
+    let l = c.loop-i in
+    let all : length c.args.line.now ≡ l.i = omega arith in
+    ap (number_up_to l.value) all ∙ sym (digits_past c.args.line.now l.value l.i (omega arith)) ∙ l.invariant

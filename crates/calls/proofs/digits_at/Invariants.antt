@@ -1,11 +1,6 @@
-use mathlib.Core.Path.{◌≡◌}
-use Prim.Native.Nat.{◌-◌, ◌≤◌}
-use lib.ListN.{length, drop}
+use Rattle.std.proofs.Common.{◌≡◌, drop}
 use Rattle.calls.specs.Parse.{digits_from}
 use Rattle.calls.proofs.digits_at.Given as goal
 
 abbrev pub invariant-loop-i : goal.invariant-loop-i
-invariant-loop-i l = (l.i ≤ length l.line) × (digits_from l.value l.i (drop l.i l.line) ≡ digits_from 0 l.at (drop l.at l.line))
-
-abbrev pub decreases-loop-i : goal.decreases-loop-i
-decreases-loop-i l = length l.line - l.i
+invariant-loop-i l = digits_from l.value l.i (drop l.i l.line) ≡ digits_from 0 l.at (drop l.at l.line)
