@@ -8,288 +8,174 @@
 // over.
 #![tactic(auto)]
 
-mod state;
-
-ghost use Rattle.std.specs.Prelude.{◌≤◌, length};
-
+use arrayvec::ArrayVec;
 use listing::hex_value;
-use report::{Console, say, say_differs};
-use state::{State, give_up, say_total, wrong};
-use std::env::Env;
+use report::{Console, Counts, Report, one_more};
 use std::fs::File;
-use std::io::Print;
-use std::rt::Files;
-use text_lines::{Next, Text, Unread};
+use std::io;
+use text_lines::{Replay, line_length};
 
-// The most bytes of an input, and the digits that they have.
+// The most bytes of an input.
 const MAX_CASE_BYTES: usize = 4200;
 
-const MAX_DIGITS: usize = 8400;
+const TEXT: usize = lines::TEXT;
 
-// They are passed as arrays, so that no caller has to prove their lengths.
-type Input = [u8; MAX_CASE_BYTES];
+// The replay of a file.
+#[derive(Drop)]
+struct Run {
+    // What is printed for the input.
+    text: ArrayVec<u8, TEXT>,
+    // Where the next line of it begins; none, where the case is given up.
+    next: Option<usize>,
+    cases: u64,
+    compared: u64,
+}
 
-type Printed = [u8; lines::TEXT];
+// The byte that two digits give.
+fn byte_of(digits: &[u8; 2]) -> Option<u8> {
+    let [high, low] = digits;
+    Some((hex_value(*high)? * 16 + hex_value(*low)?) as u8)
+}
 
-// What is left of a made text; nothing, where the bounds lie outside of it.
-fn rest_of(out: &[u8], at: usize, made: usize) -> &[u8] {
-    if made <= out.len() {
-        if at <= made {
-            return &out[at..made];
+// The bytes that the digits of an input line give.
+fn bytes_of(digits: &[u8]) -> Result<ArrayVec<u8, MAX_CASE_BYTES>, &'static str> {
+    if digits.len() > 2 * MAX_CASE_BYTES {
+        return Err("more than 4200 bytes");
+    }
+    let (pairs, rest) = digits.as_chunks::<2>();
+    if !rest.is_empty() {
+        return Err("an odd number of digits");
+    }
+    let mut bytes = ArrayVec::new();
+    for pair in pairs {
+        bytes.push(byte_of(pair).ok_or("not lower-case hexadecimal digits")?);
+    }
+    Ok(bytes)
+}
+
+// The first column in which a stored line differs from the made one; column 2 is the first of both.
+fn differs_at(stored: &[u8], made: &[u8]) -> Option<usize> {
+    let same = stored.len().min(made.len());
+    let other = stored.iter().zip(made).position(|(s, m)| s != m);
+    let longer = (stored.len() != made.len()).then_some(same);
+    Some(other.or(longer)? + 2)
+}
+
+// Says a line with what stands before it.
+fn say_text(to: Console, before: &str, text: &[u8]) {
+    to.say(before);
+    to.say_bytes(text);
+    to.say("\n");
+}
+
+impl Run {
+    // Before the first case nothing is printed.
+    fn new() -> Run {
+        Run {
+            text: ArrayVec::new(),
+            next: Some(0),
+            cases: 0,
+            compared: 0,
         }
     }
-    &out[0..0]
-}
 
-// Says the first line of a made text.
-fn say_made(to: Console, text: &[u8]) {
-    let n = text_lines::line_length(text);
-    say(to, b"  made    o ");
-    say(to, &text[0..n]);
-    say(to, b"\n");
-}
-
-// The byte that two digits give; 256 where one is none.
-fn byte_of(first: u8, second: u8) -> u32
-    ensures { result ≤ 256 }
-{
-    let high = hex_value(first);
-    let low = hex_value(second);
-    if high == 16 {
-        return 256;
-    }
-    if low == 16 {
-        return 256;
-    }
-    high * 16 + low
-}
-
-// Puts the byte of every two digits into `input`. Answers whether all of them are digits.
-fn put_bytes(digits: &[u8], input: &mut Input) -> bool
-    requires { length digits.now ≤ 8400 }
-{
-    let count = digits.len() / 2;
-    for i in 0..count {
-        let byte = byte_of(digits[2 * i], digits[2 * i + 1]);
-        if byte == 256 {
-            return false;
+    // The next printed line, without its line feed; none, where the case is given up or has no further.
+    fn next_made(&self) -> Option<&[u8]> {
+        let left = self.text.get(self.next?..)?;
+        if left.is_empty() {
+            return None;
         }
-        input[i] = byte as u8;
+        Some(&left[..line_length(left)])
     }
-    true
-}
 
-// Makes the text of an input. The place is cleared, so that no text of an earlier case is left.
-fn run_case(state: State, input: &[u8], out: &mut Printed) -> State {
-    *out = [0; lines::TEXT];
-    let made = trace_answer::answer(input, out);
-    state.with_case(made)
-}
-
-// Takes the digits of an input line.
-fn digits_line(
-    to: Console,
-    name: &[u8],
-    digits: &[u8],
-    state: State,
-    input: &mut Input,
-    out: &mut Printed,
-) -> State {
-    let count = digits.len() / 2;
-    if digits.len() > MAX_DIGITS {
-        return give_up(to, name, state, b"more than 4200 bytes");
-    }
-    if digits.len() % 2 != 0 {
-        return give_up(to, name, state, b"an odd number of digits");
-    }
-    if !put_bytes(digits, input) {
-        return give_up(to, name, state, b"not lower-case hexadecimal digits");
-    }
-    let all = &input[..];
-    run_case(state, &all[0..count], out)
-}
-
-// A case ends where the next one begins or the file ends.
-fn end_case(to: Console, name: &[u8], state: State, out: &Printed, what: &[u8]) -> State {
-    let text = rest_of(out, state.at, state.made);
-    if state.given_up || text.len() == 0 {
-        return state;
-    }
-    let after = wrong(to, name, state, what);
-    say_made(to, text);
-    after
-}
-
-fn input_line(
-    to: Console,
-    name: &[u8],
-    line: &[u8],
-    state: State,
-    input: &mut Input,
-    out: &mut Printed,
-) -> State
-    requires { 3 ≤ length line.now }
-{
-    let ended = end_case(to, name, state, out, b"the case before ends early");
-    let end = line.len() - 1;
-    digits_line(to, name, &line[2..end], ended, input, out)
-}
-
-// The first column from 2 on that differs from the text; the length of the line where there is none.
-fn first_wrong(line: &[u8], text: &[u8]) -> usize {
-    for i in 2..line.len() {
-        if i - 2 >= text.len() {
-            return i;
-        }
-        if line[i] != text[i - 2] {
-            return i;
+    // A case ends where the next one begins or the file ends.
+    fn end_case(&self, list: &mut Report<'_>, what: &str) {
+        if let Some(made) = self.next_made() {
+            list.wrong(what);
+            say_text(list.to, "  made    o ", made);
         }
     }
-    line.len()
-}
 
-// Says that a line differs from the next one of the made text. The line after it is compared with the
-// one after that.
-fn line_differs(
-    to: Console,
-    name: &[u8],
-    line: &[u8],
-    state: State,
-    text: &[u8],
-    at: usize,
-) -> State {
-    say_differs(to, name, state.lines, at);
-    say(to, b"  stored  ");
-    say(to, line);
-    say_made(to, text);
-    let n = text_lines::line_length(text);
-    state.with_other(if n < text.len() { n + 1 } else { n })
-}
+    // Takes the digits of an input, and makes what is printed for it.
+    fn input_line(&mut self, digits: &[u8], list: &mut Report<'_>) -> Result<(), &'static str> {
+        self.end_case(list, "the case before ends early");
+        let input = bytes_of(digits)?;
+        let mut text = [0; TEXT];
+        let made = trace_answer::answer(&input, &mut text);
+        self.text = ArrayVec::from(text);
+        self.text.truncate(made);
+        self.next = Some(0);
+        self.cases = one_more(self.cases);
+        Ok(())
+    }
 
-// Compares a line with the next one of the made text, both with their line feeds.
-fn printed_line(to: Console, name: &[u8], line: &[u8], state: State, out: &Printed) -> State
-    requires { 3 ≤ length line.now }
-{
-    if state.given_up {
-        return state.with_passed();
-    }
-    let text = rest_of(out, state.at, state.made);
-    if text.len() == 0 {
-        return wrong(to, name, state, b"no further line is made");
-    }
-    let at = first_wrong(line, text);
-    if at < line.len() {
-        return line_differs(to, name, line, state, text, at);
-    }
-    state.with_same(line.len() - 2)
-}
-
-fn other_line(to: Console, name: &[u8], state: State) -> State {
-    give_up(to, name, state, b"neither an input nor a printed line")
-}
-
-// Takes a line, which has its line feed at its end.
-fn check_line(
-    to: Console,
-    name: &[u8],
-    line: &[u8],
-    before: State,
-    input: &mut Input,
-    out: &mut Printed,
-) -> State {
-    let state = before.with_line();
-    if line.len() < 3 {
-        return other_line(to, name, state);
-    }
-    if line[1] != b' ' {
-        return other_line(to, name, state);
-    }
-    let letter = line[0];
-    match letter {
-        b'i' => input_line(to, name, line, state, input, out),
-        b'o' => printed_line(to, name, line, state, out),
-        _ => other_line(to, name, state),
-    }
-}
-
-// Says how a file ends.
-fn end_file(to: Console, name: &[u8], state: State, next: Next, out: &Printed) {
-    let last = state.with_line();
-    match next {
-        Next::Failed(why) => {
-            input::fail(to.err, name, why);
-        }
-        Next::Cut => say_total(to, name, wrong(to, name, last, b"cut short")),
-        Next::Long => say_total(to, name, wrong(to, name, last, b"too long to be read")),
-        _ => say_total(
-            to,
-            name,
-            end_case(to, name, state, out, b"the case ends early"),
-        ),
-    }
-}
-
-// A proved loop has to end, and nothing says that a file does. So the loop counts its turns down,
-// from a number that no run uses up.
-fn check_lines(
-    to: Console,
-    file: &mut File,
-    name: &[u8],
-    text: &mut Text,
-    input: &mut Input,
-    out: &mut Printed,
-) {
-    let mut state = State::none();
-    let mut unread = Unread::none();
-    let mut turns = u64::MAX;
-    while turns > 0 {
-        turns -= 1;
-        let taken = text_lines::take_text(file, text, unread);
-        unread = taken.unread;
-        let start = taken.start;
-        let end = taken.stop + 1;
-        let next = taken.next;
-        match next {
-            Next::Line => {
-                let all = &text[..];
-                state = check_line(to, name, &all[start..end], state, input, out);
-            }
-            _ => {
-                end_file(to, name, state, next, out);
-                return;
+    // Compares a printed line. After one that differs the next line is compared with the next one.
+    fn printed_line(&mut self, stored: &[u8], list: &mut Report<'_>) {
+        let Some(next) = self.next else {
+            list.counts.add_passed();
+            return;
+        };
+        let Some(made) = self.next_made() else {
+            list.wrong("no further line is made");
+            return;
+        };
+        let with_feed = made.len().wrapping_add(1);
+        match differs_at(stored, made) {
+            None => list.counts.add_same(with_feed as u64),
+            Some(at) => {
+                list.differs(at);
+                say_text(list.to, "  stored  o ", stored);
+                say_text(list.to, "  made    o ", made);
             }
         }
+        self.next = Some(next.wrapping_add(with_feed));
+        self.compared = one_more(self.compared);
     }
 }
 
-fn check_file(to: Console, file: &mut File, name: &[u8]) {
-    let mut text = [0u8; 65536];
-    let mut input = [0u8; MAX_CASE_BYTES];
-    let mut out = [0u8; lines::TEXT];
-    check_lines(to, file, name, &mut text, &mut input, &mut out);
+impl Replay for Run {
+    fn take(&mut self, line: &[u8], list: &mut Report<'_>) {
+        list.line();
+        let taken = match line {
+            [b'i', b' ', digits @ ..] => self.input_line(digits, list),
+            [b'o', b' ', stored @ ..] => {
+                self.printed_line(stored, list);
+                Ok(())
+            }
+            _ => Err("neither an input nor a printed line"),
+        };
+        if let Err(what) = taken {
+            list.wrong(what);
+            self.next = None;
+        }
+    }
+
+    fn end(&mut self, list: &mut Report<'_>) {
+        self.end_case(list, "the case ends early");
+    }
 }
 
-fn check_argument<R: Env + Files<File = File>>(rt: &R, to: Console, i: usize) {
-    let mut path = [0u8; 4096];
-    let list = input::open_argument(rt, to.err, i, &mut path);
-    let n = list.length;
-    if let Some(mut file) = list.file {
-        check_file(to, &mut file, &path[..n]);
-    }
+fn check_list(list: &mut Report<'_>, file: File) -> io::Result<()> {
+    let mut run = Run::new();
+    text_lines::each_line(file, list, &mut run)?;
+    let Run {
+        cases,
+        compared,
+        ..
+    } = run;
+    let name = list.name;
+    let Counts {
+        characters,
+        passed,
+        wrong,
+        ..
+    } = list.counts;
+    list.to.say(format_args!(
+        "{name}: {cases} cases, {compared} lines compared, {characters} characters compared, {passed} passed over, {wrong} wrong\n"
+    ));
+    Ok(())
 }
 
 fn main(rt: HostRuntime) {
-    let to = Console {
-        out: rt.stdout(),
-        err: rt.stderr(),
-    };
-    let count = input::argument_count(&rt);
-    if count < 2 {
-        // There is no place to tell that this fails.
-        let _ = to.err.write_all(b"usage: trace_vectors LIST..\n");
-        return;
-    }
-    for i in 1..count {
-        check_argument(&rt, to, i);
-    }
+    report::each_list(&rt, Console::of(&rt), "trace_vectors", check_list);
 }
