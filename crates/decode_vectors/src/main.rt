@@ -27,7 +27,7 @@ fn check_line(list: &mut Report<'_>, line: &[u8; 48]) {
 // Checks the lines of a list. The turns are more than any run uses up.
 fn check_list(list: &mut Report<'_>, mut file: File) -> io::Result<()> {
     for _ in 0..u64::MAX {
-        match text_lines::next_sized(&mut file, list)? {
+        match list.read_line(&mut file)? {
             Some(line) => check_line(list, &line),
             None => break,
         }

@@ -12,7 +12,6 @@ use listing::Head;
 use report::{Console, Report};
 use std::fs::File;
 use std::{fmt, io};
-use text_lines::Unreadable;
 
 // The most row lines of a program, and so the most words.
 const MAX_ROWS: usize = 1365;
@@ -185,7 +184,7 @@ fn check_program(list: &mut Report<'_>, announced: usize, lines: &[[u8; 48]])
 
 // Takes the next program, and answers whether to go on.
 fn take_program(list: &mut Report<'_>, file: &mut File) -> io::Result<bool> {
-    let Some(line) = text_lines::next_sized(file, list)? else {
+    let Some(line) = list.read_line(file)? else {
         return Ok(false);
     };
     let Some(sizes) = listing::program_counts(&line) else {
@@ -200,7 +199,7 @@ fn take_program(list: &mut Report<'_>, file: &mut File) -> io::Result<bool> {
     let mut buffer = [0u8; MAX_BYTES];
     let bytes = &mut buffer[..rows * 48];
     if input::fill(file, bytes)? < bytes.len() {
-        list.wrong(Unreadable::Cut);
+        list.wrong("cut short");
         return Ok(false);
     }
     let (lines, _) = bytes.as_chunks::<48>();

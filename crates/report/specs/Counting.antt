@@ -1,5 +1,5 @@
 -- The counts of a list's lines. Assumes nothing: these are definitions.
-use Rattle.std.specs.Prelude.{◌≡◌, ℕ, ◌+◌, ◌%◌, ◌^◌, Bool, true, false, ◌⊎◌, List, Option, None, Some, Result, Ok, Err}
+use Rattle.std.specs.Prelude.{◌≡◌, ℕ, ◌+◌, ◌%◌, ◌^◌, ◌⊎◌, List, Option, None, Some, Result, Ok, Err}
 use Rattle.std.specs.declared.io.Error.{Error}
 use Rattle.report.specs.declared.Counts.{Counts}
 
@@ -40,14 +40,9 @@ with_wrong c = counts_of c.lines c.characters c.passed (one_more c.wrong)
 abbrev pub with_cut : Counts → Counts
 with_cut c = with_wrong (with_lines 1 c)
 
--- the counts after a part was read, or was cut short, or a read failed
-abbrev pub after_part : Result Bool Error → Counts → Counts
-after_part (Ok true) c = c
-after_part (Ok false) c = with_cut c
-after_part (Err why) c = c
-
--- likewise after a line was read; where there is none, the list ends behind a line or inside one
+-- the counts after the next line was to be taken: it is counted; where there is none, the list ends behind a line or inside
+-- one; a failed read changes nothing
 abbrev pub IsAfterLine : Result (Option (List ℕ)) Error → Counts → Counts → Type 0
-IsAfterLine (Ok (Some line)) old new = new ≡ old
+IsAfterLine (Ok (Some line)) old new = new ≡ with_lines 1 old
 IsAfterLine (Ok None) old new = (new ≡ old) ⊎ (new ≡ with_cut old)
 IsAfterLine (Err why) old new = new ≡ old

@@ -3,8 +3,8 @@
 #![tactic(auto)]
 
 ghost use Rattle.std.specs.Prelude.{◌≡◌};
-ghost use Rattle.report.specs.Counting.{one_more, no_counts, with_lines, with_same, with_passed, with_wrong, after_part, IsAfterLine};
-ghost use Rattle.report.specs.Reading.{ReadsPart, ReadsLine};
+ghost use Rattle.report.specs.Counting.{one_more, no_counts, with_lines, with_same, with_passed, with_wrong, IsAfterLine};
+ghost use Rattle.report.specs.Reading.{ReadsLine};
 
 use std::env::Env;
 use std::fmt::Display;
@@ -149,23 +149,8 @@ impl<'a> Report<'a> {
         self.wrong(format_args!("differs at column {at}"));
     }
 
-    // Fills a part of the list, and answers whether it has so much. A part that is cut short is a wrong
-    // line.
-    pub fn read_part<R: Read>(&mut self, file: &mut R, part: &mut [u8]) -> io::Result<bool>
-        ensures counts { self.new ≡ record self.old { counts = after_part result self.old.counts } }
-        ensures bytes { ReadsPart result (R.remaining file.old) (R.remaining file.new) part.new }
-    {
-        let n = input::fill(file, part)?;
-        if n < part.len() {
-            self.line();
-            self.wrong("cut short");
-            return Ok(false);
-        }
-        Ok(true)
-    }
-
-    // The next line of a list whose lines have `N` bytes; none, where the list ends. A line that is cut
-    // short is a wrong one.
+    // Takes the next line of a list whose lines have `N` bytes; none, where the list ends. One that ends
+    // inside a line has one wrong line more.
     pub fn read_line<R: Read, const N: usize>(
         &mut self,
         file: &mut R,
@@ -176,6 +161,7 @@ impl<'a> Report<'a> {
         let mut line = [0; N];
         let n = input::fill(file, &mut line)?;
         if n == N {
+            self.line();
             return Ok(Some(line));
         }
         if n > 0 {

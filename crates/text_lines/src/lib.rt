@@ -2,9 +2,7 @@
 // is not taken for its end.
 #![tactic(auto)]
 
-ghost use Rattle.std.specs.Prelude.{◌≡◌, ◌+◌, ◌<◌, ◌≤◌, IfErr, IfNone, IfOk, IfSome, length};
-ghost use Rattle.std.specs.Io.KnownBytes.{Consumes, IsAtEnd};
-ghost use Rattle.report.specs.Counting.{with_lines};
+ghost use Rattle.std.specs.Prelude.{◌≡◌, ◌+◌, ◌<◌, ◌≤◌, IfOk, IfSome, length};
 ghost use Rattle.text_lines.specs.declared.Unreadable.TheVariants.{Failed};
 
 use input::Broken;
@@ -158,28 +156,4 @@ pub fn each_line<R: Read + Drop, P: Replay>(
         }
     }
     Ok(())
-}
-
-// Takes the next line of a list whose lines have `N` bytes each, their line feeds among them; none,
-// where the list ends. One that ends inside a line has one wrong line more.
-pub fn next_sized<R: Read, const N: usize>(
-    file: &mut R,
-    list: &mut Report<'_>,
-) -> io::Result<Option<[u8; N]>>
-    ensures line { IfOk result (λ o. IfSome o (λ line. Consumes (R.remaining file.old) (R.remaining file.new) line)) }
-    ensures counted { IfOk result (λ o. IfSome o (λ _. list.new ≡ record list.old { counts = with_lines 1 list.old.counts })) }
-    ensures end { IfOk result (λ o. IfNone o (0 < N → IsAtEnd (R.remaining file.new))) }
-    ensures failed { IfErr result (λ _. list.new ≡ list.old) }
-{
-    let mut line = [0u8; N];
-    let n = input::fill(file, &mut line)?;
-    if n == 0 {
-        return Ok(None);
-    }
-    list.line();
-    if n < N {
-        list.wrong(Unreadable::Cut);
-        return Ok(None);
-    }
-    Ok(Some(line))
 }
