@@ -1,6 +1,8 @@
 -- What a turn of each loop does, and the stores of a line against its text. Assumes nothing.
-use Rattle.std.proofs.Common.{◌≡◌, ℕ, zero, suc, ◌+◌, ◌-◌, ◌*◌, ◌/◌, ◌%◌, ◌^◌, ◌<◌, ◌≤◌, List, [], ◌∷◌, None, Some, Ok, Err, ◌++◌, length, replicate, get_or, set, refl, not-suc-le-zero, add-zero, mul-le-mul_right, suc-mul, pow-suc, add-one, arith, le-ltb, lt-ltb, eq-eqb, ne_eqb}
+use Rattle.std.proofs.Common.{◌≡◌, ℕ, zero, suc, ◌+◌, ◌-◌, ◌*◌, ◌/◌, ◌%◌, ◌^◌, ◌<◌, ◌≤◌, List, [], ◌∷◌, None, Some, Ok, Err, ◌++◌, length, drop, replicate, get_or, set, refl, not-suc-le-zero, add-zero, mul-le-mul_right, suc-mul, pow-suc, add-one, arith, le-ltb, lt-ltb, eq-eqb, ne_eqb}
 use native.Mathlib.Numerals.{unary_clauses}
+use lib.ListN.{drop_of_length-le}
+use lib.Seq.{drop-cons}
 use native.Mathlib.Nat.{pow-le-pow_right}
 use Rattle.decode.specs.declared.Inst.{Inst}
 use Rattle.decode.specs.declared.Opcode.{Opcode}
@@ -97,30 +99,31 @@ row_made r k n p q s = cc (row_filled r.raw r.rd r.rs1 r.rs2 r.funct3 r.imm k (k
 
 -- ---- the numbers of a line
 
--- a number of i of the n digits, at the next digit
-module _ (base n i v : ℕ) (h : i < n) where
-  left : n - i ≡ suc (n - (i + 1))
-  left = omega arith
-
-  module _ (line : List ℕ) (at d : ℕ) (here : hex_value (get_or line (at + i) 0) ≡ Some d) where
-    pub digit-read : d < base → number_from base (n - (i + 1)) (at + (i + 1)) (v * base + d) line ≡ number_from base (n - i) (at + i) v line
+-- a number n of the digits before place i, at the digit there
+module _ (base n : ℕ) (digits : List ℕ) (i : ℕ) (here : i < length digits) where
+  module _ (d : ℕ) (told : hex_value (get_or digits i 0) ≡ Some d) where
+    pub digit-read : d < base → number_from base (n * base + d) (drop (i + 1) digits) ≡ number_from base n (drop i digits)
     unfolding number_from
-    digit-read below = let f : at + (i + 1) ≡ at + i + 1 = omega arith in rw (left, f, here, lt-ltb _ _ below)
+    digit-read below = rw (drop-cons digits i 0 here, told, lt-ltb _ _ below, add-one)
 
-    pub digit_past : base ≤ d → None ≡ number_from base (n - i) (at + i) v line
+    pub digit_past : base ≤ d → None ≡ number_from base n (drop i digits)
     unfolding number_from
-    digit_past past = rw (left, here, le-ltb _ _ past)
+    digit_past past = rw (drop-cons digits i 0 here, told, le-ltb _ _ past)
 
-  pub no_digit : (line : List ℕ) (at : ℕ) → hex_value (get_or line (at + i) 0) ≡ None → None ≡ number_from base (n - i) (at + i) v line
+    pub digit-fits : n < base ^ i → d < base → base ^ length digits ≤ 2 ^ 32 → (n * base + d < base ^ (i + 1)) × (n * base + d < 2 ^ 32)
+    digit-fits k l m =
+        let p : base ^ (i + 1) ≡ base ^ i * base = rw add-one (pow-suc base i) in
+        let q : base ^ (i + 1) ≤ base ^ length digits = pow-le-pow_right (omega arith) {i = i + 1} {j = length digits} (omega arith) in
+        let r : suc n * base ≤ base ^ i * base = mul-le-mul_right base (omega arith) in
+        (omega (arith, suc-mul n base), omega (arith, suc-mul n base))
+
+  pub no_digit : hex_value (get_or digits i 0) ≡ None → None ≡ number_from base n (drop i digits)
   unfolding number_from
-  no_digit line at here = rw (left, here)
+  no_digit told = rw (drop-cons digits i 0 here, told)
 
-  pub digit-fits : (d : ℕ) → v < base ^ i → d < base → base ^ n ≤ 2 ^ 32 → (v * base + d < base ^ (i + 1)) × (v * base + d < 2 ^ 32)
-  digit-fits d k l m =
-      let p : base ^ (i + 1) ≡ base ^ i * base = rw add-one (pow-suc base i) in
-      let q : base ^ (i + 1) ≤ base ^ n = pow-le-pow_right (omega arith) {i = i + 1} {j = n} (omega arith) in
-      let r : suc v * base ≤ base ^ i * base = mul-le-mul_right base (omega arith) in
-      (omega (arith, suc-mul v base), omega (arith, suc-mul v base))
+pub all-read : (base n : ℕ) (digits : List ℕ) (i : ℕ) → length digits ≤ i → Some n ≡ number_from base n (drop i digits)
+unfolding number_from
+all-read base n digits i h = rw (drop_of_length-le digits {i = i} h)
 
 -- ---- two lines
 

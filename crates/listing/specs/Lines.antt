@@ -1,5 +1,5 @@
 -- A listing line, and what a line with a stored answer comes to. Assumes nothing.
-use Rattle.std.specs.Prelude.{ℕ, zero, suc, ◌+◌, ◌-◌, ◌*◌, ◌/◌, ◌%◌, ◌^◌, Bool, cond, ◌||◌, List, [], ◌∷◌, ◌++◌, ◌==◌, nat_le, nat_lt, slice_index, Option, None, Some, Result, Ok, Err}
+use Rattle.std.specs.Prelude.{ℕ, zero, suc, ◌+◌, ◌-◌, ◌*◌, ◌/◌, ◌%◌, ◌^◌, Bool, cond, ◌||◌, List, [], ◌∷◌, ◌++◌, ◌==◌, nat_le, nat_lt, slice_index, slice_range, Option, None, Some, Result, Ok, Err}
 use Rattle.std.specs.Option.{option_and_then}
 use Rattle.decode.specs.Decode.{decode_of}
 use Rattle.decode.specs.declared.Inst.{Inst}
@@ -67,16 +67,15 @@ word_line_of raw = line_of_inst (decode_of raw)
 unfoldable pub hex_value : ℕ → Option ℕ
 hex_value c = cond (nat_lt c 48) None (cond (nat_le c 57) (Some (c - 48)) (cond (nat_lt c 97) None (cond (nat_le c 102) (Some (c - 87)) None)))
 
--- n and the digits at the next `left` places, as one number; none where one is no digit of the base
-unfoldable pub number_from : ℕ → ℕ → ℕ → ℕ → List ℕ → Option ℕ
-number_from base zero at n line = Some n
-number_from base (suc left) at n line =
-    option_and_then (λ d. cond (nat_lt d base) (number_from base left (at + 1) (n * base + d) line) None)
-    (hex_value (slice_index line at))
+-- n and then some digits, as one number; none where one is no digit of the base
+unfoldable pub number_from : ℕ → ℕ → List ℕ → Option ℕ
+number_from base n [] = Some n
+number_from base n (c ∷ digits) =
+    option_and_then (λ d. cond (nat_lt d base) (number_from base (n * base + d) digits) None) (hex_value c)
 
 -- the word that the first eight characters give, of a line with a line feed at its end
 abbrev pub parsed_word : List ℕ → Option ℕ
-parsed_word line = cond (slice_index line 47 == 10) (number_from 16 8 0 0 line) None
+parsed_word line = cond (slice_index line 47 == 10) (number_from 16 0 (slice_range line 0 8)) None
 
 -- the word of four bytes, the lowest first
 abbrev pub word_le : ℕ → ℕ → ℕ → ℕ → ℕ

@@ -1,5 +1,5 @@
 -- The line of a ROM row, the line in front of the rows of a program, and what is read of both. Assumes nothing.
-use Rattle.std.specs.Prelude.{ℕ, cond, ◌&&◌, List, [], ◌∷◌, ◌++◌, ◌==◌, slice_index, Option, None, Some, Result, Ok, Err}
+use Rattle.std.specs.Prelude.{ℕ, cond, ◌&&◌, List, [], ◌∷◌, ◌++◌, ◌==◌, slice_index, slice_range, Option, None, Some, Result, Ok, Err}
 use Rattle.expand.specs.Rows.{row_of}
 use Rattle.expand.specs.declared.RomRow.{RomRow}
 use Rattle.expand.specs.declared.VirtualKind.{VirtualKind}
@@ -57,7 +57,7 @@ of_counts None rows = None
 
 -- the counts of a line, by its comparison with the shape: four decimal digits each
 abbrev pub of_shape : List ℕ → Result ℕ ℕ → Option Sizes
-of_shape line (Ok n) = of_counts (number_from 10 4 9 0 line) (number_from 10 4 21 0 line)
+of_shape line (Ok n) = of_counts (number_from 10 0 (slice_range line 9 13)) (number_from 10 0 (slice_range line 21 25))
 of_shape line (Err at) = None
 
 -- the counts of a line of that shape

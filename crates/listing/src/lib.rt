@@ -11,7 +11,7 @@
 
 mod rows;
 
-ghost use Rattle.std.specs.Prelude.{◌≡◌, ◌+◌, ◌^◌, ◌<◌, ◌≤◌, IfSome, slice_index};
+ghost use Rattle.std.specs.Prelude.{◌≡◌, ◌+◌, ◌^◌, ◌<◌, ◌≤◌, IfSome, length, slice_index};
 ghost use Rattle.listing.specs.Lines.{digit, name_of, word_line_of, hex_value, number_from, parsed_word, word_le, compare_of, judge_of};
 ghost use Rattle.listing.specs.Steps.{put_digits, put_fields, blank};
 
@@ -138,14 +138,14 @@ pub fn hex_value(b: u8) -> Option<u32>
     }
 }
 
-// The number that `n` digits from `at` on give.
-fn number_at(line: &[u8; 48], at: usize, n: usize, base: u32) -> Option<u32>
-    requires { (at + n ≤ 48) × (base ≤ 16) × (base ^ n ≤ 2 ^ 32) }
-    ensures { result ≡ number_from base n at 0 line.now }
+// The number that some digits give.
+fn number_of(digits: &[u8], base: u32) -> Option<u32>
+    requires { (base ≤ 16) × (base ^ length digits.now ≤ 2 ^ 32) }
+    ensures { result ≡ number_from base 0 digits.now }
 {
     let mut number: u32 = 0;
-    for i in 0..n {
-        let digit = hex_value(line[at + i])?;
+    for c in digits {
+        let digit = hex_value(*c)?;
         if base <= digit {
             return None;
         }
@@ -161,7 +161,7 @@ fn parsed_word(line: &[u8; 48]) -> Option<u32>
     if line[47] != b'\n' {
         return None;
     }
-    number_at(line, 0, 8, 16)
+    number_of(&line[..8], 16)
 }
 
 // The word of four bytes, the lowest first.
@@ -172,7 +172,7 @@ pub fn word_le(bytes: [u8; 4]) -> u32
 }
 
 // A stored line against a made one: how many characters are compared, or the first place that differs.
-// A '.' that is stored stands for any character.
+// A '.' that is stored stands for any character. It goes by the place, which is what it answers.
 fn compare(stored: &[u8; 48], made: &[u8; 48]) -> Result<usize, usize>
     ensures { result ≡ compare_of stored.now made.now }
 {

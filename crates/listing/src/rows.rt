@@ -9,7 +9,7 @@ ghost use Rattle.std.specs.Prelude.{◌≡◌};
 ghost use Rattle.listing.specs.RowLines.{kind_name, row_line_of, head_of, program_counts};
 ghost use Rattle.listing.specs.Lines.{compare_of};
 
-use crate::{blank, compare, digit_char, number_at, parsed_word, put_digits, put_fields};
+use crate::{blank, compare, digit_char, number_of, parsed_word, put_digits, put_fields};
 use expand::VirtualKind;
 
 // What a row line says of its instruction: the word of it, where the row is its first. An enum of
@@ -86,7 +86,7 @@ pub fn program_counts(line: &[u8; 48]) -> Option<Sizes>
 {
     let shape = b"program: .... words, .... rows                 \n";
     compare(shape, line).ok()?;
-    let words = number_at(line, 9, 4, 10)?;
-    let rows = number_at(line, 21, 4, 10)?;
+    let words = number_of(&line[9..13], 10)?;
+    let rows = number_of(&line[21..25], 10)?;
     Some(Sizes { words, rows })
 }
