@@ -58,6 +58,7 @@ pub fn say_wrong(to: Console, what: &str, want: u64, found: u64) -> bool {
 fn differ_at(want: &[u64], rest: u64, found: &[u64]) -> Option<usize>
     ensures { result ≡ differ_place want.now rest found.now }
 {
+    // A `for`, since the proof that `position` finds the place did not close.
     for i in 0..found.len() {
         if found[i] != want.get(i).copied().unwrap_or(rest) {
             return Some(i);
@@ -122,6 +123,7 @@ fn up_from<const N: usize>(first: u64) -> [u64; N]
     ensures { result ≡ up_from N first }
 {
     let mut numbers = [0u64; N];
+    // By index: of what is written through `iter_mut` a proof knows nothing.
     for i in 0..N {
         numbers[i] = first + i as u64;
     }

@@ -1,6 +1,6 @@
 // Runs execute and compares all that it returns and writes. Each place of a record buffer holds a
 // guard word before a call; afterwards all places, the counts and the whole cursor are compared.
-use edges::{GUARD, fresh, number_of, say_differs};
+use edges::{GUARD, NUMBERS, fresh, number_of, numbers_of, say_differs};
 use interp::{Execution, Refusal};
 use report::Console;
 
@@ -37,14 +37,10 @@ fn say_execution(to: Console, want: Execution, found: Execution) {
     say_number(to, "records", want.record_count, found.record_count);
     let want = want.cursor;
     let found = found.cursor;
-    let [row, fetch] = [want.micro_pc, want.next_fetch].map(|row| row.0 as u64);
-    let [found_row, found_fetch] = [found.micro_pc, found.next_fetch].map(|row| row.0 as u64);
-    let [halted, found_halted] = [want.halted, found.halted].map(u64::from);
-    say_number(to, "micro_pc", row, found_row);
-    say_number(to, "cycles", want.cycles, found.cycles);
-    say_number(to, "halted", halted, found_halted);
-    say_number(to, "output", want.output, found.output);
-    say_number(to, "next_fetch", fetch, found_fetch);
+    let numbers = numbers_of(want).into_iter().zip(numbers_of(found));
+    for (what, (want, found)) in NUMBERS.iter().zip(numbers) {
+        say_number(to, what, want, found);
+    }
     say_list(to, "registers", &want.regs, 0, &found.regs);
     say_list(to, "RAM", &want.ram, 0, &found.ram);
 }

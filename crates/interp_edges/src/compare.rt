@@ -1,6 +1,6 @@
 // Runs a call and compares what it returns and writes. Each place of a record buffer holds a guard
 // word before a call; afterwards all places and the whole cursor are compared.
-use edges::{GUARD, number_of, say_differs, say_wrong};
+use edges::{GUARD, NUMBERS, number_of, numbers_of, say_differs, say_wrong};
 use interp::{Answer, Cursor, Refusal, Request};
 use report::Console;
 
@@ -11,19 +11,13 @@ pub(crate) type Record = [u64; 17];
 
 // Says what of a cursor is not as wanted, and answers whether all is.
 fn say_cursor(to: Console, want: Cursor, found: Cursor) -> bool {
-    let [pc, fetch] = [want.micro_pc, want.next_fetch].map(|row| row.0 as u64);
-    let [found_pc, found_fetch] = [found.micro_pc, found.next_fetch].map(|row| row.0 as u64);
-    let [halted, found_halted] = [want.halted, found.halted].map(u64::from);
-    let right = [
-        say_differs(to, "register", &want.regs, 0, &found.regs),
-        say_differs(to, "RAM word", &want.ram, 0, &found.ram),
-        say_wrong(to, "micro_pc", pc, found_pc),
-        say_wrong(to, "cycles", want.cycles, found.cycles),
-        say_wrong(to, "halted", halted, found_halted),
-        say_wrong(to, "output", want.output, found.output),
-        say_wrong(to, "next_fetch", fetch, found_fetch),
-    ];
-    right.iter().all(|is_right| *is_right)
+    let mut right = say_differs(to, "register", &want.regs, 0, &found.regs);
+    right &= say_differs(to, "RAM word", &want.ram, 0, &found.ram);
+    let numbers = numbers_of(want).into_iter().zip(numbers_of(found));
+    for (what, (want, found)) in NUMBERS.iter().zip(numbers) {
+        right &= say_wrong(to, what, want, found);
+    }
+    right
 }
 
 // Where calls start: on which rows, with which cursor, and under which name they are said.
