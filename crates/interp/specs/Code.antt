@@ -15,7 +15,7 @@ use Rattle.interp.specs.Cycle.{Step, cycle, padding}
 use Rattle.interp.specs.Calls.{recorded, end}
 use Rattle.interp.specs.Execute.{live_count_of, live_records_of, stopped_at, next_power_of_two, Executed}
 
--- a row's registers are x0 to x31; a premise and not a type, since each live cycle takes the RomRow itself, by value
+-- a row's registers are x0 to x31; a premise and no invariant of RomRow, so that expand's definitions of rows hold no proofs
 pub record InRange (row : RomRow) : Type 0 where
   pub rd : row.rd < 32
   pub rs1 : row.rs1 < 32

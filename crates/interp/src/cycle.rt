@@ -110,7 +110,7 @@ fn last_word(offset: u8, width: u8, flags: u64) -> u64
     o + 0x100 * w + 0x1_0000 * flags
 }
 
-// The words of a record.
+// The words of a record. No `From`, which could not ask for the bound on the flags.
 #[tactic(auto, unfolding(crate::specs::Machine::words))]
 fn put(r: CycleRecord, out: &mut [u64; RECORD_WORDS])
     requires { r.flags < 0x1000 }

@@ -42,7 +42,7 @@ fn fetch_row(over: bool, fetch: MicroPc, pc: MicroPc) -> MicroPc
     if over { fetch } else { pc }
 }
 
-// The numbers of a cursor, made field by field: a copy of the whole would carry the bytes beside `halted` along.
+// The numbers of a cursor, made field by field: a copy of the whole copies the padding bytes behind `halted` too.
 fn afresh(k: Core) -> Core
     ensures { result ≡ k }
 {
@@ -58,7 +58,7 @@ fn afresh(k: Core) -> Core
 // Live cycles until the machine halts, at most `limit`; they are counted. A row is taken apart in one place, so that the
 // compiler builds the decoder into the loop: where the live cycles end, that is the row at which padding stays. After a cycle
 // both positions are one, so that a row is fetched without waiting for the test whether it is live. The cycles are counted by
-// hand, since their number, at which padding starts, is an answer, and so that the shape of the loop stays as it was measured.
+// hand: document 01 has execute count them, and their number, at which padding starts, is an answer.
 // The buffer is cut here and not by `as_chunks_mut`, whose contract does not say what the slice ends as; and twice, so that the
 // compiler knows the length of a part: `first_chunk_mut` of the rest costs a live cycle eight instructions more.
 fn run_live(
@@ -100,7 +100,7 @@ fn run_live(
     }
 }
 
-// n padding cycles of the row at next_fetch.
+// n padding cycles of the row at next_fetch. The buffer is cut as in `run_live`.
 fn run_padding(row: RomRow, core: Core, n: usize, memory: &mut Memory, records: &mut [u64])
     requires { InRange row × (17 * n ≤ length records.old) }
     ensures cursor { whole core memory.new ≡ end (frozen_at row) n (whole core memory.old) }

@@ -71,7 +71,7 @@ pub extern "C" fn magnetar_is_expansion(rows: &[u64]) -> u64
 
 // ---- cursors
 
-// The cursor of an image.
+// The cursor of an image. Neither type is of this crate, so that it has no `From`.
 #[tactic(auto, unfolding(crate::specs::Image::cursor_of))]
 fn read_cursor(image: &[u64; IMAGE_WORDS]) -> Cursor
     ensures { result ≡ cursor_of image.now }
@@ -81,8 +81,8 @@ fn read_cursor(image: &[u64; IMAGE_WORDS]) -> Cursor
     let mut ram = [0u64; Cursor::RAM_WORDS];
     ram.copy_from_slice(&image[Cursor::REGS..MICRO_PC]);
     Cursor {
-        regs: regs,
-        ram: ram,
+        regs,
+        ram,
         micro_pc: MicroPc(image[MICRO_PC] as usize),
         cycles: image[CYCLES],
         halted: image[HALTED] != 0,

@@ -33,7 +33,7 @@ const ROWS: usize = 6132;
 
 // ---- the parts of an input
 //
-// The loops below write by place: a zip with iter_mut was tried, and a proof knows nothing of what is written through it.
+// The loops below write by place: of what is written through a zip with `iter_mut` a proof knows nothing.
 
 // Word i.
 fn word_at(bytes: &[u8], i: usize) -> u32
@@ -76,7 +76,7 @@ fn fill_input(words: &[u32], input: &mut [u64])
 
 // ---- the text
 
-// Expands the program and executes its rows: the execution, or the number of the refusal.
+// Expands the program and executes its rows: the execution, or the number of the refusal, which is all that is told of one.
 fn run(
     program: &[u32],
     input: &[u64],
