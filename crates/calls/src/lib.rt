@@ -31,10 +31,7 @@ impl Line {
     pub fn values(&self) -> Option<&[u64]>
         ensures { option_map (λ v. v.now) result ≡ values_of self.now }
     {
-        match &self.numbers {
-            Some(numbers) => Some(numbers.as_slice()),
-            None => None,
-        }
+        self.numbers.as_ref().map(|numbers| numbers.as_slice())
     }
 }
 
@@ -118,10 +115,7 @@ pub fn line_of(bytes: &[u8]) -> Line
 pub fn is_line(line: &Line, letter: u8, count: usize) -> bool
     ensures { result ≡ is_line line.now letter count }
 {
-    match line.values() {
-        Some(values) => line.letter == letter && values.len() == count,
-        None => false,
-    }
+    line.letter == letter && line.values().is_some_and(|values| values.len() == count)
 }
 
 // The place of the cell that a line of `count` numbers names first, a register after the letter
@@ -130,15 +124,14 @@ pub fn place_of(line: &Line, register: u8, word: u8, count: usize) -> Option<usi
     ensures place { result ≡ place_of line.now register word count }
     ensures bound { IfSome result (λ p. p < 320) }
 {
-    let i = match line.values() {
-        Some([i, ..]) => *i,
-        _ => 0,
+    let Some([i, ..]) = line.values() else {
+        return None;
     };
-    if is_line(line, register, count) && i < 64 {
-        return Some(i as usize);
+    if is_line(line, register, count) && *i < 64 {
+        return Some(*i as usize);
     }
-    if is_line(line, word, count) && i < 256 {
-        return Some(i as usize + 64);
+    if is_line(line, word, count) && *i < 256 {
+        return Some(*i as usize + 64);
     }
     None
 }
