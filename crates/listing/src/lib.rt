@@ -130,18 +130,16 @@ pub fn word_line_of(raw: u32) -> [u8; 48]
         imm,
         raw,
     } = decode::decode(raw);
+    let fields = Fields {
+        raw,
+        rd,
+        rs1,
+        rs2,
+        funct3,
+        imm,
+    };
     let mut line = blank(&name_of(opcode), b' ');
-    put_fields(
-        &mut line,
-        Fields {
-            raw,
-            rd,
-            rs1,
-            rs2,
-            funct3,
-            imm,
-        },
-    );
+    put_fields(&mut line, fields);
     put_digits(&mut line, 28, 2, 16, funct7 as u64);
     line
 }

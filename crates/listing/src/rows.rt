@@ -62,18 +62,16 @@ pub fn row_line_of(word: u64, distance: usize) -> [u8; 48]
         imm,
         raw,
     } = expand::rom_row(word);
+    let fields = Fields {
+        raw,
+        rd,
+        rs1,
+        rs2,
+        funct3,
+        imm,
+    };
     let mut line = blank(&kind_name(kind), b'+');
-    put_fields(
-        &mut line,
-        Fields {
-            raw,
-            rd,
-            rs1,
-            rs2,
-            funct3,
-            imm,
-        },
-    );
+    put_fields(&mut line, fields);
     put_digits(&mut line, 29, 1, 10, distance as u64);
     line
 }
