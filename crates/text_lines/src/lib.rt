@@ -63,7 +63,9 @@ pub fn line_length(bytes: &[u8]) -> usize
 
 impl<R: Read> Lines<R> {
     // Before the first read.
-    pub fn new(reader: R) -> Lines<R> {
+    pub fn new(reader: R) -> Lines<R>
+        ensures { (result.reader ≡ reader) × (result.at ≡ 0) × (result.end ≡ 0) }
+    {
         Lines {
             reader,
             text: [0; TEXT],
