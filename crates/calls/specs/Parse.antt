@@ -1,5 +1,5 @@
 -- The line that some bytes are. Assumes nothing: these are definitions.
-use Rattle.std.specs.Prelude.{ℕ, zero, suc, ◌+◌, ◌*◌, ◌^◌, Bool, false, not, cond, ◌&&◌, List, [], ◌∷◌, ◌++◌, length, drop, get_or, eqb, ltb, leb, Option, None, Some}
+use Rattle.std.specs.Prelude.{ℕ, zero, suc, ◌+◌, ◌*◌, ◌^◌, Bool, false, not, cond, ◌&&◌, List, [], ◌∷◌, ◌++◌, length, drop, eqb, ltb, leb, Option, None, Some}
 use Rattle.std.specs.Option.{option_map, option_and_then, option_map_or}
 use Rattle.arrayvec.specs.ArrayVec.{ArrayVec}
 use Rattle.listing.specs.Lines.{hex_value}

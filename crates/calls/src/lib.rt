@@ -12,7 +12,9 @@ use listing::hex_value;
 // The most numbers of a line.
 pub const NUMBERS: usize = 17;
 
-// A letter, 0 where the line is empty, and the numbers behind it; none, where they have another form.
+// A letter and the numbers behind it; none, where they have another form. An empty line has the letter
+// 0, and no `None` stands for it: no list has a line of that letter, so it is told like any other line
+// that does not belong where it stands.
 #[derive(Drop)]
 pub struct Line {
     pub letter: u8,
@@ -42,9 +44,12 @@ fn digits_at(line: &[u8], at: usize) -> Option<Number>
     ensures inside { IfSome result (λ n. (at ≤ n.after) × (n.after ≤ length line.now)) }
 {
     let mut value: u64 = 0;
-    for i in at..line.len() {
-        let Some(d) = hex_value(line[i]) else {
-            return Some(Number { value, after: i });
+    for (i, c) in line[at..].iter().enumerate() {
+        let Some(d) = hex_value(*c) else {
+            return Some(Number {
+                value,
+                after: at + i,
+            });
         };
         if value >= 0x1000_0000_0000_0000 {
             return None;
@@ -84,6 +89,7 @@ fn numbers_of(line: &[u8]) -> Option<ArrayVec<u64, NUMBERS>>
 {
     let mut values = ArrayVec::new();
     let mut at = 1;
+    // A `while`, since a number says where the next one begins: a step has no fixed size.
     while at < line.len() {
         let number = number_at(line, at)?;
         if values.is_full() {
