@@ -10,24 +10,27 @@ use Rattle.calls.specs.Parse.{number_up_to, digits_from, plain, spaced_number, n
 
 -- ---- the digits of a number
 
-module _ (line : List ℕ) (n i : ℕ) where
-  module _ (here : i < length line) where
-    pub digits-end : hex_value (get_or line i 0) ≡ None → digits_from n i (drop i line) ≡ number_up_to n i
+-- the digits behind the first i of a text that begins at place `at`
+module _ (text : List ℕ) (at n i : ℕ) where
+  module _ (here : i < length text) where
+    pub digits-end : hex_value (get_or text i 0) ≡ None → digits_from n (at + i) (drop i text) ≡ number_up_to n (at + i)
     unfolding digits_from
-    digits-end none = rw (drop-cons line i 0 here, none)
+    digits-end none = rw (drop-cons text i 0 here, none)
 
-    module _ (d : ℕ) (told : hex_value (get_or line i 0) ≡ Some d) where
-      pub digits_large : 2 ^ 60 ≤ n → digits_from n i (drop i line) ≡ None
+    module _ (d : ℕ) (told : hex_value (get_or text i 0) ≡ Some d) where
+      pub digits_large : 2 ^ 60 ≤ n → digits_from n (at + i) (drop i text) ≡ None
       unfolding digits_from
-      digits_large h = rw (drop-cons line i 0 here, told, le-leb (2 ^ 60) n h)
+      digits_large h = rw (drop-cons text i 0 here, told, le-leb (2 ^ 60) n h)
 
-      pub digits_on : n < 2 ^ 60 → digits_from n i (drop i line) ≡ digits_from (n * 16 + d) (i + 1) (drop (i + 1) line)
+      pub digits_on : n < 2 ^ 60 → digits_from n (at + i) (drop i text) ≡ digits_from (n * 16 + d) (at + (i + 1)) (drop (i + 1) text)
       unfolding digits_from
-      digits_on h = rw (drop-cons line i 0 here, told, lt-leb (2 ^ 60) n h, add-one)
+      digits_on h =
+          let next : at + i + 1 ≡ at + (i + 1) = omega arith in
+          rw (drop-cons text i 0 here, told, lt-leb (2 ^ 60) n h, ← next, add-one, add-one)
 
-  pub digits_past : length line ≤ i → digits_from n i (drop i line) ≡ number_up_to n i
+  pub digits_past : length text ≤ i → digits_from n (at + i) (drop i text) ≡ number_up_to n (at + i)
   unfolding digits_from
-  digits_past h = rw (drop_of_length-le line {i = i} h)
+  digits_past h = rw (drop_of_length-le text {i = i} h)
 
 -- ---- a number, by the first two characters of a text that begins at place i
 
@@ -56,7 +59,7 @@ module _ (line : List ℕ) (at : ℕ) where
   abbrev pub rest : List ℕ
   rest = take (length line - at) (drop at line)
 
-  whole : rest ≡ drop at line
+  pub whole : rest ≡ drop at line
   whole = take_all (length line - at) (drop at line) (omega (arith, length-drop at line))
 
   pub short_none : length rest < 2 → None ≡ spaced_number at (drop at line)

@@ -1,5 +1,5 @@
 -- The line that some bytes are. Assumes nothing: these are definitions.
-use Rattle.std.specs.Prelude.{ℕ, zero, suc, ◌+◌, ◌*◌, ◌^◌, Bool, false, not, cond, ◌&&◌, List, [], ◌∷◌, ◌++◌, length, drop, get_or, eqb, ltb, leb, Option, None, Some}
+use Rattle.std.specs.Prelude.{ℕ, zero, suc, ◌+◌, ◌*◌, ◌^◌, Bool, false, not, cond, ◌&&◌, List, [], ◌∷◌, ◌++◌, length, drop, eqb, ltb, leb, Option, None, Some}
 use Rattle.std.specs.Option.{option_map, option_and_then, option_map_or}
 use Rattle.arrayvec.specs.ArrayVec.{ArrayVec}
 use Rattle.listing.specs.Lines.{hex_value}
@@ -56,15 +56,16 @@ values_of line = option_map (λ (n : ArrayVec ℕ). n.items) line.numbers
 abbrev pub is_line : Line → ℕ → ℕ → Bool
 is_line line letter count = eqb line.letter letter && option_map_or (λ values. eqb (length values) count) (values_of line) false
 
--- the first of some numbers; 0 where there is none
-abbrev pub first_of : Option (List ℕ) → ℕ
-first_of values = option_map_or (λ values. get_or values 0 0) values 0
+-- the first of some numbers
+abbrev pub first_of : List ℕ → Option ℕ
+first_of [] = None
+first_of (first ∷ rest) = Some first
 
 -- the place of register cell i, or of RAM word i, which stands behind the 64 registers
 abbrev pub cell_place : Bool → Bool → ℕ → Option ℕ
 cell_place is_register is_word i = cond (is_register && ltb i 64) (Some i) (cond (is_word && ltb i 256) (Some (i + 64)) None)
 
--- the place of the cell that a line of so many numbers names first
+-- the place of the cell that a line of so many numbers names first; none, where it has no number
 abbrev pub place_of : Line → ℕ → ℕ → ℕ → Option ℕ
 place_of line register word count =
-    cell_place (is_line line register count) (is_line line word count) (first_of (values_of line))
+    option_and_then (cell_place (is_line line register count) (is_line line word count)) (option_and_then first_of (values_of line))

@@ -12,7 +12,9 @@ use listing::hex_value;
 // The most numbers of a line.
 pub const NUMBERS: usize = 17;
 
-// A letter, 0 where the line is empty, and the numbers behind it; none, where they have another form.
+// A letter and the numbers behind it; none, where they have another form. An empty line has the letter
+// 0, and no `None` stands for it: no list has a line of that letter, so it is told like any other line
+// that does not belong where it stands.
 #[derive(Drop)]
 pub struct Line {
     pub letter: u8,
@@ -31,10 +33,7 @@ impl Line {
     pub fn values(&self) -> Option<&[u64]>
         ensures { option_map (λ v. v.now) result ≡ values_of self.now }
     {
-        match &self.numbers {
-            Some(numbers) => Some(numbers.as_slice()),
-            None => None,
-        }
+        self.numbers.as_ref().map(|numbers| numbers.as_slice())
     }
 }
 
@@ -45,9 +44,12 @@ fn digits_at(line: &[u8], at: usize) -> Option<Number>
     ensures inside { IfSome result (λ n. (at ≤ n.after) × (n.after ≤ length line.now)) }
 {
     let mut value: u64 = 0;
-    for i in at..line.len() {
-        let Some(d) = hex_value(line[i]) else {
-            return Some(Number { value, after: i });
+    for (i, c) in line[at..].iter().enumerate() {
+        let Some(d) = hex_value(*c) else {
+            return Some(Number {
+                value,
+                after: at + i,
+            });
         };
         if value >= 0x1000_0000_0000_0000 {
             return None;
@@ -87,6 +89,7 @@ fn numbers_of(line: &[u8]) -> Option<ArrayVec<u64, NUMBERS>>
 {
     let mut values = ArrayVec::new();
     let mut at = 1;
+    // A `while`, since a number says where the next one begins: a step has no fixed size.
     while at < line.len() {
         let number = number_at(line, at)?;
         if values.is_full() {
@@ -118,10 +121,7 @@ pub fn line_of(bytes: &[u8]) -> Line
 pub fn is_line(line: &Line, letter: u8, count: usize) -> bool
     ensures { result ≡ is_line line.now letter count }
 {
-    match line.values() {
-        Some(values) => line.letter == letter && values.len() == count,
-        None => false,
-    }
+    line.letter == letter && line.values().is_some_and(|values| values.len() == count)
 }
 
 // The place of the cell that a line of `count` numbers names first, a register after the letter
@@ -130,15 +130,14 @@ pub fn place_of(line: &Line, register: u8, word: u8, count: usize) -> Option<usi
     ensures place { result ≡ place_of line.now register word count }
     ensures bound { IfSome result (λ p. p < 320) }
 {
-    let i = match line.values() {
-        Some([i, ..]) => *i,
-        _ => 0,
+    let Some([i, ..]) = line.values() else {
+        return None;
     };
-    if is_line(line, register, count) && i < 64 {
-        return Some(i as usize);
+    if is_line(line, register, count) && *i < 64 {
+        return Some(*i as usize);
     }
-    if is_line(line, word, count) && i < 256 {
-        return Some(i as usize + 64);
+    if is_line(line, word, count) && *i < 256 {
+        return Some(*i as usize + 64);
     }
     None
 }

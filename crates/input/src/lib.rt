@@ -46,9 +46,9 @@ fn read_once<R: Read>(reader: &mut R, buf: &mut [u8]) -> Result<usize, Broken>
     outcome(got, buf)
 }
 
-// Reads until `buf` is full, the input ends or a read fails, and answers how many bytes came. Of a
-// reader whose bytes are known, these stand in `buf`, and where no failed read is told, fewer than it
-// holds come only at their end.
+// Reads until `buf` is full or the input ends, and answers how many bytes came; a read that fails is an
+// `Err`, with how many came before it. Of a reader whose bytes are known, these stand in `buf`, and an
+// `Ok` of fewer than it holds comes only at their end.
 pub fn fill<R: Read>(reader: &mut R, buf: &mut [u8]) -> Result<usize, Broken>
     ensures prefix_len { IsPrefixLen (count_of result) buf.new }
     ensures bytes { Consumes (R.remaining reader.old) (R.remaining reader.new) (take (count_of result) buf.new) }

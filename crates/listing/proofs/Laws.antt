@@ -10,6 +10,7 @@ use Rattle.decode.specs.declared.Opcode.TheVariants.{Lui, Auipc, Jal, Jalr, Bran
 use Rattle.expand.specs.declared.RomRow.{RomRow}
 use Rattle.expand.specs.declared.VirtualKind.{VirtualKind}
 use Rattle.expand.specs.declared.VirtualKind.TheVariants as kind
+use Rattle.listing.specs.declared.Fields.{Fields}
 use Rattle.listing.specs.Lines.{digit, last_digits, name_of, columns, line_of_inst, hex_value, number_from, compare_from}
 use Rattle.listing.specs.RowLines.{kind_name, line_of_row}
 use Rattle.listing.specs.Steps.{put_digits, put_fields, blank}
@@ -75,25 +76,28 @@ kind_seven kind.Upper = seven _ _ _ _ _ _ _
 kind_seven kind.Jump = seven _ _ _ _ _ _ _
 kind_seven kind.System = seven _ _ _ _ _ _ _
 
+abbrev fields_of : (raw rd rs1 rs2 funct3 imm : ℕ) → Fields
+fields_of raw rd rs1 rs2 funct3 imm = record { raw = raw; rd = rd; rs1 = rs1; rs2 = rs2; funct3 = funct3; imm = imm }
+
 -- the columns are disjoint, so the stores and the text are the same 48 characters
 module _ (raw rd rs1 rs2 funct3 imm v : ℕ) where
   word_filled : {text : List ℕ} → Seven text
-      → put_digits (put_fields (blank text 32) raw rd rs1 rs2 funct3 imm) 28 2 16 v ≡ columns text (last_digits 16 2 v) raw rd rs1 rs2 funct3 imm
+      → put_digits (put_fields (blank text 32) (fields_of raw rd rs1 rs2 funct3 imm)) 28 2 16 v ≡ columns text (last_digits 16 2 v) raw rd rs1 rs2 funct3 imm
   unfolding columns put_digits put_fields blank
   word_filled (seven a b c d e f g) = refl
 
   row_filled : {text : List ℕ} → Seven text
-      → put_digits (put_fields (blank text 43) raw rd rs1 rs2 funct3 imm) 29 1 10 v ≡ columns text (43 ∷ last_digits 10 1 v) raw rd rs1 rs2 funct3 imm
+      → put_digits (put_fields (blank text 43) (fields_of raw rd rs1 rs2 funct3 imm)) 29 1 10 v ≡ columns text (43 ∷ last_digits 10 1 v) raw rd rs1 rs2 funct3 imm
   unfolding columns put_digits put_fields blank
   row_filled (seven a b c d e f g) = refl
 
 pub line_made : (d : Inst) {name a b e : List ℕ} → name ≡ name_of d.opcode → a ≡ blank name 32
-    → b ≡ put_fields a d.raw d.rd d.rs1 d.rs2 d.funct3 d.imm
+    → b ≡ put_fields a (fields_of d.raw d.rd d.rs1 d.rs2 d.funct3 d.imm)
     → e ≡ put_digits b 28 2 16 d.funct7 → e ≡ line_of_inst d
 line_made d n p q r = cc (word_filled d.raw d.rd d.rs1 d.rs2 d.funct3 d.imm d.funct7 (name_seven d.opcode))
 
 pub row_made : (r : RomRow) (k : ℕ) {name a b e : List ℕ} → name ≡ kind_name r.kind → a ≡ blank name 43
-    → b ≡ put_fields a r.raw r.rd r.rs1 r.rs2 r.funct3 r.imm
+    → b ≡ put_fields a (fields_of r.raw r.rd r.rs1 r.rs2 r.funct3 r.imm)
     → e ≡ put_digits b 29 1 10 k → e ≡ line_of_row r k
 row_made r k n p q s = cc (row_filled r.raw r.rd r.rs1 r.rs2 r.funct3 r.imm k (kind_seven r.kind))
 

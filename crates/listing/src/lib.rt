@@ -15,7 +15,7 @@ ghost use Rattle.std.specs.Prelude.{◌≡◌, ◌+◌, ◌^◌, ◌<◌, ◌≤
 ghost use Rattle.listing.specs.Lines.{digit, name_of, word_line_of, hex_value, number_from, parsed_word, word_le, compare_of, judge_of};
 ghost use Rattle.listing.specs.Steps.{put_digits, put_fields, blank};
 
-use decode::Opcode;
+use decode::{Inst, Opcode};
 pub use rows::{Head, Sizes, compare_row, head_of, program_counts, row_line_of};
 use std::fmt;
 
@@ -57,24 +57,27 @@ fn put_digits(line: &mut [u8; 48], at: usize, n: usize, base: u64, v: u64)
     }
 }
 
-// Puts in the fields that the lines of a word and of a row have in common.
-fn put_fields(
-    line: &mut [u8; 48],
+// The fields that the lines of a word and of a row have in common.
+#[derive(Clone, Copy)]
+struct Fields {
     raw: u32,
     rd: usize,
     rs1: usize,
     rs2: usize,
     funct3: u32,
     imm: u64,
-)
-    ensures { line.new ≡ put_fields line.old raw rd rs1 rs2 funct3 imm }
+}
+
+// Puts them in at their columns.
+fn put_fields(line: &mut [u8; 48], fields: Fields)
+    ensures { line.new ≡ put_fields line.old fields }
 {
-    put_digits(line, 0, 8, 16, raw as u64);
-    put_digits(line, 17, 2, 10, rd as u64);
-    put_digits(line, 20, 2, 10, rs1 as u64);
-    put_digits(line, 23, 2, 10, rs2 as u64);
-    put_digits(line, 26, 1, 10, funct3 as u64);
-    put_digits(line, 31, 16, 16, imm);
+    put_digits(line, 0, 8, 16, fields.raw as u64);
+    put_digits(line, 17, 2, 10, fields.rd as u64);
+    put_digits(line, 20, 2, 10, fields.rs1 as u64);
+    put_digits(line, 23, 2, 10, fields.rs2 as u64);
+    put_digits(line, 26, 1, 10, fields.funct3 as u64);
+    put_digits(line, 31, 16, 16, fields.imm);
 }
 
 // A line before its numbers are put in: a text of seven characters, and a mark at 28.
@@ -117,11 +120,27 @@ fn name_of(op: Opcode) -> [u8; 7]
 pub fn word_line_of(raw: u32) -> [u8; 48]
     ensures { result ≡ word_line_of raw }
 {
-    let d = decode::decode(raw);
-    let op = d.opcode;
-    let mut line = blank(&name_of(op), b' ');
-    put_fields(&mut line, d.raw, d.rd, d.rs1, d.rs2, d.funct3, d.imm);
-    put_digits(&mut line, 28, 2, 16, d.funct7 as u64);
+    let Inst {
+        opcode,
+        rd,
+        rs1,
+        rs2,
+        funct3,
+        funct7,
+        imm,
+        raw,
+    } = decode::decode(raw);
+    let fields = Fields {
+        raw,
+        rd,
+        rs1,
+        rs2,
+        funct3,
+        imm,
+    };
+    let mut line = blank(&name_of(opcode), b' ');
+    put_fields(&mut line, fields);
+    put_digits(&mut line, 28, 2, 16, funct7 as u64);
     line
 }
 

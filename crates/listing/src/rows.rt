@@ -9,8 +9,8 @@ ghost use Rattle.std.specs.Prelude.{◌≡◌};
 ghost use Rattle.listing.specs.RowLines.{kind_name, row_line_of, head_of, program_counts};
 ghost use Rattle.listing.specs.Lines.{compare_of};
 
-use crate::{blank, compare, digit_char, number_of, parsed_word, put_digits, put_fields};
-use expand::VirtualKind;
+use crate::{Fields, blank, compare, digit_char, number_of, parsed_word, put_digits, put_fields};
+use expand::{RomRow, VirtualKind};
 
 // What a row line says of its instruction: the word of it, where the row is its first. An enum of
 // three, since an `Option` in an `Option` would name none of the cases.
@@ -53,10 +53,25 @@ fn kind_name(kind: VirtualKind) -> [u8; 7]
 pub fn row_line_of(word: u64, distance: usize) -> [u8; 48]
     ensures { result ≡ row_line_of word distance }
 {
-    let r = expand::rom_row(word);
-    let kind = r.kind;
+    let RomRow {
+        kind,
+        rd,
+        rs1,
+        rs2,
+        funct3,
+        imm,
+        raw,
+    } = expand::rom_row(word);
+    let fields = Fields {
+        raw,
+        rd,
+        rs1,
+        rs2,
+        funct3,
+        imm,
+    };
     let mut line = blank(&kind_name(kind), b'+');
-    put_fields(&mut line, r.raw, r.rd, r.rs1, r.rs2, r.funct3, r.imm);
+    put_fields(&mut line, fields);
     put_digits(&mut line, 29, 1, 10, distance as u64);
     line
 }

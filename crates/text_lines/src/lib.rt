@@ -6,7 +6,7 @@ ghost use Rattle.std.specs.Prelude.{◌≡◌, ◌+◌, ◌<◌, ◌≤◌, IfOk
 ghost use Rattle.text_lines.specs.declared.Unreadable.TheVariants.{Failed};
 
 use input::Broken;
-use report::Report;
+use report::{CUT, Report};
 use std::io::Read;
 use std::{fmt, io};
 
@@ -27,7 +27,7 @@ pub enum Unreadable {
 impl fmt::Display for Unreadable {
     fn fmt<W: fmt::Write>(&self, f: &mut fmt::Formatter<W>) -> fmt::Result {
         match self {
-            Unreadable::Cut => write!(f, "cut short"),
+            Unreadable::Cut => f.write_str(CUT),
             Unreadable::Long => write!(f, "too long to be read"),
             Unreadable::Failed(why) => write!(f, "{why}"),
         }
@@ -63,7 +63,9 @@ pub fn line_length(bytes: &[u8]) -> usize
 
 impl<R: Read> Lines<R> {
     // Before the first read.
-    pub fn new(reader: R) -> Lines<R> {
+    pub fn new(reader: R) -> Lines<R>
+        ensures { (result.reader ≡ reader) × (result.at ≡ 0) × (result.end ≡ 0) }
+    {
         Lines {
             reader,
             text: [0; TEXT],

@@ -5,5 +5,5 @@ use Rattle.listing.proofs.word_line_of.Goals as goal
 
 pub returns : goal.returns
 returns c =
-    let d = c.decode-d in
+    let d = c.decode-opcode in
     line_made d.result c.name_of.ensures c.blank-line.ensures c.put_fields.ensures c.put_digits.ensures ∙ ap line_of_inst d.ensures
