@@ -2,6 +2,7 @@
 use Rattle.std.specs.Prelude.{◌≡◌, ℕ, ◌+◌, ◌%◌, ◌^◌, ◌⊎◌, List, Option, None, Some, Result, Ok, Err}
 use Rattle.std.specs.declared.io.Error.{Error}
 use Rattle.report.specs.declared.Counts.{Counts}
+use Rattle.report.specs.declared.Report.{Report}
 
 -- n more, which wraps at 2^64
 abbrev pub more : ℕ → ℕ → ℕ
@@ -40,9 +41,9 @@ with_wrong c = counts_of c.lines c.characters c.passed (one_more c.wrong)
 abbrev pub with_cut : Counts → Counts
 with_cut c = with_wrong (with_lines 1 c)
 
--- the counts after the next line was to be taken: it is counted; where there is none, the list ends behind a line or inside
--- one; a failed read changes nothing
-abbrev pub IsAfterLine : Result (Option (List ℕ)) Error → Counts → Counts → Type 0
-IsAfterLine (Ok (Some line)) old new = new ≡ with_lines 1 old
-IsAfterLine (Ok None) old new = (new ≡ old) ⊎ (new ≡ with_cut old)
+-- a report after the next line was to be taken: the line is counted; where there is none, the list ends behind a line or
+-- inside one; a failed read changes nothing
+abbrev pub IsAfterLine : Result (Option (List ℕ)) Error → Report → Report → Type 0
+IsAfterLine (Ok (Some line)) old new = new ≡ record old { counts = with_lines 1 old.counts }
+IsAfterLine (Ok None) old new = (new ≡ old) ⊎ (new ≡ record old { counts = with_cut old.counts })
 IsAfterLine (Err why) old new = new ≡ old

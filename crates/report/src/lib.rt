@@ -12,6 +12,9 @@ use std::io;
 use std::io::{Print, Read, Stderr, Stdout};
 use std::rt::Files;
 
+// What is said of a list that ends inside a line.
+pub const CUT: &str = "cut short";
+
 // Where messages go, and what fails there is told.
 #[derive(Clone, Copy)]
 pub struct Console {
@@ -155,7 +158,7 @@ impl<'a> Report<'a> {
         &mut self,
         file: &mut R,
     ) -> io::Result<Option<[u8; N]>>
-        ensures counts { IsAfterLine result self.old.counts self.new.counts }
+        ensures report { IsAfterLine result self.old self.new }
         ensures bytes { ReadsLine result (R.remaining file.old) (R.remaining file.new) }
     {
         let mut line = [0; N];
@@ -166,7 +169,7 @@ impl<'a> Report<'a> {
         }
         if n > 0 {
             self.line();
-            self.wrong("cut short");
+            self.wrong(CUT);
         }
         Ok(None)
     }

@@ -6,7 +6,7 @@ ghost use Rattle.std.specs.Prelude.{◌≡◌, ◌+◌, ◌<◌, ◌≤◌, IfOk
 ghost use Rattle.text_lines.specs.declared.Unreadable.TheVariants.{Failed};
 
 use input::Broken;
-use report::Report;
+use report::{CUT, Report};
 use std::io::Read;
 use std::{fmt, io};
 
@@ -27,7 +27,7 @@ pub enum Unreadable {
 impl fmt::Display for Unreadable {
     fn fmt<W: fmt::Write>(&self, f: &mut fmt::Formatter<W>) -> fmt::Result {
         match self {
-            Unreadable::Cut => write!(f, "cut short"),
+            Unreadable::Cut => f.write_str(CUT),
             Unreadable::Long => write!(f, "too long to be read"),
             Unreadable::Failed(why) => write!(f, "{why}"),
         }
