@@ -9,11 +9,31 @@ ghost use Rattle.edges.specs.Compare.{differ_place};
 ghost use Rattle.edges.specs.Cursors.{numbers_of, cells_of, up_from, marked_regs, marked_ram, marked_cursor, at_rows, with_cycles, with_reg, with_ram, with_cell, halted_with};
 
 use expand::MicroPc;
-use interp::{Cursor, Refusal};
+use interp::{Cursor, RECORD_WORDS, Refusal};
 use report::Console;
 
 // What a place of a record buffer holds before a call.
 pub const GUARD: u64 = 0xa5a5_a5a5_a5a5_a5a5;
+
+// The places of a record buffer that calls at their limits are lent the first of.
+pub const PLACES: usize = 160;
+
+// The words of a record.
+pub type Record = [u64; RECORD_WORDS];
+
+// Word 16 of a record: we and is_arith; we; halted_latch.
+pub const ADD: u64 = 0x5_0000;
+
+pub const WE: u64 = 0x1_0000;
+
+pub const HLT: u64 = 0x800_0000;
+
+// addi x10,x0,5 and ecall, document 01's example M1.
+pub const FIVE: u64 = 0x0050_0513;
+
+pub const ECALL: u64 = 0x0000_0073;
+
+pub const M1: [u64; 2] = [FIVE, ECALL];
 
 // The registers and the RAM of a cursor as one list of cells: register i at place i, RAM word i behind
 // them.
@@ -96,7 +116,7 @@ pub fn cells_of(cursor: Cursor) -> Cells
 }
 
 // The names of a cursor's numbers, in their order.
-pub const NUMBERS: [&str; 5] = ["micro_pc", "cycles", "halted", "output", "next_fetch"];
+pub const NUMBER_NAMES: [&str; 5] = ["micro_pc", "cycles", "halted", "output", "next_fetch"];
 
 pub fn numbers_of(cursor: Cursor) -> [u64; 5]
     ensures { result ≡ numbers_of cursor }
@@ -117,15 +137,14 @@ pub fn fresh() -> Cursor
 }
 
 // N numbers from `first` on.
-#[tactic(auto, using(crate::proofs::Lists::stored, crate::proofs::Lists::all_stored))]
+#[tactic(auto, using(crate::proofs::Lists::next_number, crate::proofs::Lists::all_numbers))]
 fn up_from<const N: usize>(first: u64) -> [u64; N]
     requires { first + N ≤ 2 ^ 64 }
     ensures { result ≡ up_from N first }
 {
     let mut numbers = [0u64; N];
-    // By index: of what is written through `iter_mut` a proof knows nothing.
-    for i in 0..N {
-        numbers[i] = first + i as u64;
+    for (i, number) in numbers.iter_mut().enumerate() {
+        *number = first + i as u64;
     }
     numbers
 }

@@ -1,15 +1,11 @@
 // Runs execute and compares all that it returns and writes. Each place of a record buffer holds a
 // guard word before a call; afterwards all places, the counts and the whole cursor are compared.
-use edges::{GUARD, NUMBERS, fresh, number_of, numbers_of, say_differs};
+use edges::{GUARD, NUMBER_NAMES, PLACES, Record, fresh, number_of, numbers_of, say_differs};
 use interp::{Execution, Refusal};
 use report::Console;
 
-const PLACES: usize = 160;
-
-// The words of a record.
-pub type Record = [u64; 17];
-
-// max_cycles, and how many words are lent.
+// max_cycles, and how many words are lent: a pair, since names in each row of the tables of lengths
+// would hide the numbers.
 pub type Length = (u64, usize);
 
 // What is said in place of an execution that is refused, which hands back neither counts nor a cursor.
@@ -38,7 +34,7 @@ fn say_execution(to: Console, want: Execution, found: Execution) {
     let want = want.cursor;
     let found = found.cursor;
     let numbers = numbers_of(want).into_iter().zip(numbers_of(found));
-    for (what, (want, found)) in NUMBERS.iter().zip(numbers) {
+    for (what, (want, found)) in NUMBER_NAMES.iter().zip(numbers) {
         say_number(to, what, want, found);
     }
     say_list(to, "registers", &want.regs, 0, &found.regs);

@@ -6,32 +6,23 @@
 mod compare;
 mod sameness;
 
-use compare::{Case, Length, Record};
-use edges::{STAGES, at, fresh, halted, with_cycles, with_ram, with_reg};
+use compare::{Case, Length};
+use edges::{
+    ADD, ECALL, FIVE, HLT, M1, Record, STAGES, WE, at, fresh, halted, with_cycles, with_ram,
+    with_reg,
+};
 use interp::{Cursor, Execution, Refusal};
 use report::Console;
 
-// The most cycles of execute.
+// The most cycles of execute, not `interp::MAX_EXECUTE_CYCLES`: a test has its own number.
 const MAX_EXECUTE_CYCLES: u64 = 0x1_0000_0000;
 
-// Word 16 of a record: we and is_arith; we; halted_latch; a load of a word; a store of 8 bytes.
-const ADD: u64 = 0x5_0000;
-
-const WE: u64 = 0x1_0000;
-
-const HLT: u64 = 0x800_0000;
-
+// Word 16 of a record: a load of a word; a store of 8 bytes.
 const LD: u64 = 0x445_0000;
 
 const STORE: u64 = 0x80_0800;
 
-// addi x10,x0,5 and ecall, document 01's example M1, and its records.
-const FIVE: u64 = 0x0050_0513;
-
-const ECALL: u64 = 0x0000_0073;
-
-const M1: [u64; 2] = [FIVE, ECALL];
-
+// The records of M1.
 const FIRST: Record = [0, 0, 0, 5, 0, 10, 0, 0, 0, 0, 0, 1, 0, 5, 5, 0, 327680];
 
 const SECOND: Record = [1, 5, 0, 5, 0, 32, 0, 0, 0, 0, 0, 1, 5, 0, 5, 0, 134217728];

@@ -9,7 +9,7 @@ ghost use Rattle.std.specs.Prelude.{◌≤◌, length};
 use arrayvec::ArrayVec;
 use expand::{InstPos, MicroPc, Refusal, SHIFT_STAGES};
 use listing::Head;
-use report::{Console, Report};
+use report::{CUT, Console, Report};
 use std::fs::File;
 use std::{fmt, io};
 
@@ -148,7 +148,8 @@ fn check_row(list: &mut Report<'_>, line: &[u8; 48], word: u64, distance: usize)
 // Compares the lines of a program with its rows.
 fn check_rows(list: &mut Report<'_>, lines: &[[u8; 48]], rows: &[u64], starts: &[u64]) {
     let mut inst = 0;
-    // No stored row has the distance 9, which is that of a row before the first start.
+    // No stored row has the distance 9, which is that of a row before the first start: a number and no
+    // Option, since such a row's line is made and shown like any other.
     let mut distance: usize = 9;
     for (r, (line, word)) in lines.iter().zip(rows).enumerate() {
         if expand::inst_to_micro(starts, InstPos(inst)) == Some(MicroPc(r)) {
@@ -199,7 +200,7 @@ fn take_program(list: &mut Report<'_>, file: &mut File) -> io::Result<bool> {
     let mut buffer = [0u8; MAX_BYTES];
     let bytes = &mut buffer[..rows * 48];
     if input::fill(file, bytes)? < bytes.len() {
-        list.wrong("cut short");
+        list.wrong(CUT);
         return Ok(false);
     }
     let (lines, _) = bytes.as_chunks::<48>();

@@ -1,20 +1,15 @@
 // Runs a call and compares what it returns and writes. Each place of a record buffer holds a guard
 // word before a call; afterwards all places and the whole cursor are compared.
-use edges::{GUARD, NUMBERS, number_of, numbers_of, say_differs, say_wrong};
+use edges::{GUARD, NUMBER_NAMES, PLACES, Record, number_of, numbers_of, say_differs, say_wrong};
 use interp::{Answer, Cursor, Refusal, Request};
 use report::Console;
-
-const PLACES: usize = 160;
-
-// The words of a record.
-pub(crate) type Record = [u64; 17];
 
 // Says what of a cursor is not as wanted, and answers whether all is.
 fn say_cursor(to: Console, want: Cursor, found: Cursor) -> bool {
     let mut right = say_differs(to, "register", &want.regs, 0, &found.regs);
     right &= say_differs(to, "RAM word", &want.ram, 0, &found.ram);
     let numbers = numbers_of(want).into_iter().zip(numbers_of(found));
-    for (what, (want, found)) in NUMBERS.iter().zip(numbers) {
+    for (what, (want, found)) in NUMBER_NAMES.iter().zip(numbers) {
         right &= say_wrong(to, what, want, found);
     }
     right
@@ -22,7 +17,7 @@ fn say_cursor(to: Console, want: Cursor, found: Cursor) -> bool {
 
 // Where calls start: on which rows, with which cursor, and under which name they are said.
 #[derive(Clone, Copy)]
-pub(crate) struct Case<'a> {
+pub struct Case<'a> {
     to: Console,
     name: &'a str,
     rows: &'a [u64],

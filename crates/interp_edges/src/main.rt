@@ -5,32 +5,22 @@
 
 mod compare;
 
-use compare::{Case, Record};
-use edges::{STAGES, at, fresh, halted, marked, with_cycles, with_reg};
+use compare::Case;
+use edges::{
+    ADD, ECALL, FIVE, HLT, M1, Record, STAGES, WE, at, fresh, halted, marked, with_cycles, with_reg,
+};
 use interp::Request::{Padding, Segment};
 use interp::{Cursor, Refusal};
 use report::Console;
 
-// The most cycles of a machine.
+// The most cycles of a machine, not `interp::MAX_TOTAL_CYCLES`: a test has its own number.
 const MAX_TOTAL_CYCLES: u64 = 0x4000_0000_0000_0000;
 
-// Flags, as word 16 has them: we and is_arith; we; a taken branch; halted_latch.
-const ADD: u64 = 0x5_0000;
-
-const WE: u64 = 0x1_0000;
-
+// Word 16 of a record: a taken branch.
 const TAKEN: u64 = 0x16_0000;
 
-const HLT: u64 = 0x800_0000;
-
-// addi x10,x0,5 and ecall, document 01's example M1; addi x0,x0,0.
-const FIVE: u64 = 0x0050_0513;
-
-const ECALL: u64 = 0x0000_0073;
-
+// addi x0,x0,0.
 const NOP: u64 = 0x0000_0013;
-
-const M1: [u64; 2] = [FIVE, ECALL];
 
 // The records of M1's rows from the marked cursor, and of the second after the first.
 const LIVE: Record = [0, 0, 35, 5, 40, 10, 0, 94, 0, 0, 0, 1, 0, 5, 5, 0, ADD];

@@ -16,7 +16,8 @@ impl fmt::Display for Place {
     }
 }
 
-// The cells of a fresh cursor: the input's first 256 words in RAM, all else 0.
+// The cells of a fresh cursor: the input's first 256 words in RAM, all else 0. They are computed apart
+// from `Cursor::start` on purpose, since what that makes is compared with them.
 pub fn start_cells(input: &[u64]) -> Cells {
     let mut cells = [0u64; CELLS];
     let kept = input.len().min(Cursor::RAM_WORDS);

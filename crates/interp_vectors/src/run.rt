@@ -2,7 +2,7 @@
 use crate::cells::{Place, start_cells};
 use arrayvec::ArrayVec;
 use calls::{Line, place_of};
-use edges::{Cells, GUARD, cells_of, number_of};
+use edges::{Cells, GUARD, NUMBER_NAMES, cells_of, number_of, numbers_of};
 use interp::{Answer, Cursor, RECORD_WORDS, Request};
 use report::{Report, one_more};
 use std::fmt::Display;
@@ -22,9 +22,6 @@ const MAX_RECORDS: usize = 512;
 const MAX_ROOM: u64 = 8744;
 
 const PLACES: usize = 8761;
-
-// The fields of a cursor line.
-const FIELDS: [&str; 5] = ["micro_pc", "cycles", "halted", "output", "next_fetch"];
 
 // What the next line is to be.
 #[derive(Clone, Copy)]
@@ -47,7 +44,8 @@ enum Phase {
     Cell(usize),
 }
 
-// Why the list that a line stands in cannot be run on.
+// Why the list that a line stands in cannot be run on. A text is enough: it is only said, and no caller
+// tells one from another.
 type Fault = &'static str;
 
 #[derive(Drop)]
@@ -240,19 +238,12 @@ impl Run {
 
     fn take_cursor(&mut self, line: &Line, list: &mut Report<'_>) -> Result<(), Fault> {
         let want = match (line.letter, line.values()) {
-            (b'c', Some(want)) if want.len() == FIELDS.len() => want,
+            (b'c', Some(want)) if want.len() == NUMBER_NAMES.len() => want,
             _ => return Err("not a cursor line"),
         };
-        let cursor = &self.cursor;
-        let found = [
-            cursor.micro_pc.0 as u64,
-            cursor.cycles,
-            u64::from(cursor.halted),
-            cursor.output,
-            cursor.next_fetch.0 as u64,
-        ];
-        for ((field, want), found) in FIELDS.iter().zip(want).zip(&found) {
-            compare(list, *field, *want, *found);
+        let found = numbers_of(self.cursor);
+        for ((name, want), found) in NUMBER_NAMES.iter().zip(want).zip(&found) {
+            compare(list, *name, *want, *found);
         }
         self.phase = Phase::Cell(0);
         Ok(())
