@@ -12,14 +12,13 @@ use std::io;
 fn check_line(list: &mut Report<'_>, line: &[u8; 48]) {
     match listing::judge(line) {
         Ok(n) => list.counts.add_same(n as u64),
-        Err(why) => {
-            list.wrong(why);
-            if let Wrong::Differs { raw, .. } = why {
-                list.to.say("  stored  ");
-                list.to.say_bytes(line);
-                list.to.say("  decoded ");
-                list.to.say_bytes(&listing::word_line_of(raw));
-            }
+        Err(Wrong::NoLine) => list.wrong("not a listing line"),
+        Err(Wrong::Differs { at, raw }) => {
+            list.differs(at);
+            list.to.say("  stored  ");
+            list.to.say_bytes(line);
+            list.to.say("  decoded ");
+            list.to.say_bytes(&listing::word_line_of(raw));
         }
     }
 }

@@ -48,7 +48,7 @@ fn read_once<R: Read>(reader: &mut R, buf: &mut [u8]) -> Result<usize, Broken>
 
 // Reads until `buf` is full or the input ends, and answers how many bytes came; a read that fails is an
 // `Err`, with how many came before it. Of a reader whose bytes are known, these stand in `buf`, and an
-// `Ok` of fewer than it holds comes only at their end.
+// `Ok` of fewer than it holds comes only at their end. The turns go on by as much as a read gave.
 pub fn fill<R: Read>(reader: &mut R, buf: &mut [u8]) -> Result<usize, Broken>
     ensures prefix_len { IsPrefixLen (count_of result) buf.new }
     ensures bytes { Consumes (R.remaining reader.old) (R.remaining reader.new) (take (count_of result) buf.new) }

@@ -17,7 +17,6 @@ ghost use Rattle.listing.specs.Steps.{put_digits, put_fields, blank};
 
 use decode::{Inst, Opcode};
 pub use rows::{Head, Sizes, compare_row, head_of, program_counts, row_line_of};
-use std::fmt;
 
 // Why a line with a stored answer is wrong: the place where it differs and the word of the line, or it
 // is no listing line.
@@ -25,15 +24,6 @@ use std::fmt;
 pub enum Wrong {
     NoLine,
     Differs { at: usize, raw: u32 },
-}
-
-impl fmt::Display for Wrong {
-    fn fmt<W: fmt::Write>(&self, f: &mut fmt::Formatter<W>) -> fmt::Result {
-        match self {
-            Wrong::NoLine => write!(f, "not a listing line"),
-            Wrong::Differs { at, .. } => write!(f, "differs at column {at}"),
-        }
-    }
 }
 
 // The character of a digit.
