@@ -7,7 +7,8 @@ use interp::Cursor;
 use report::Report;
 use std::{fmt, iter};
 
-// What is wrong with a line that cannot stand where it does.
+// What is wrong with a line that cannot stand where it does. Faults are texts: they are only said, and
+// no caller tells one from another.
 pub const ODD: &str = "of another form, out of order, or no change";
 
 #[derive(Clone, Copy)]
@@ -18,7 +19,7 @@ pub enum Kind {
 }
 
 impl Kind {
-    // The kind of the case that a line of this letter begins.
+    // The kind of the case that a line of this letter begins. One that begins none is no error.
     pub fn of(letter: u8) -> Option<Kind> {
         match letter {
             b'a' => Some(Kind::Agreeing),

@@ -37,7 +37,8 @@ fn byte_of(digits: &[u8; 2]) -> Option<u8> {
     Some((hex_value(*high)? * 16 + hex_value(*low)?) as u8)
 }
 
-// The bytes that the digits of an input line give.
+// The bytes that the digits of an input line give. Faults are texts: they are only said, and no caller
+// tells one from another.
 fn bytes_of(digits: &[u8]) -> Result<ArrayVec<u8, MAX_CASE_BYTES>, &'static str> {
     if digits.len() > 2 * MAX_CASE_BYTES {
         return Err("more than 4200 bytes");
