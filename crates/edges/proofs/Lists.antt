@@ -46,8 +46,8 @@ module _ (old new buffer : List ℕ) (i : ℕ) (same : length old ≡ length new
   pub stored : (v : ℕ) → i < length new → v ≡ get_or new i 0 → set buffer i v ≡ take (i + 1) new ++ drop (i + 1) old
   stored v here e = rw (so_far, e, add-one) (filled_on old new i (omega arith) here)
 
-  pub all_stored : i ≡ length new → buffer ≡ new
-  all_stored all = so_far ∙ rw (all, take-length new, drop_of_length-le old {i = length new} (omega arith), append-nil new)
+  pub all-stored : i ≡ length new → buffer ≡ new
+  all-stored all = so_far ∙ rw (all, take-length new, drop_of_length-le old {i = length new} (omega arith), append-nil new)
 
 -- ---- numbers in order
 
