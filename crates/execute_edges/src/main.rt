@@ -34,7 +34,7 @@ const JUMP: Record = [0, 0, 0, 0, 0, 32, 0, 0, 0, 0, 0, 0, 0, 0, 0, 0, 0];
 
 const LATCH: Record = [0, 0, 0, 0, 0, 32, 0, 0, 0, 0, 0, 0, 0, 0, 0, 0, HLT];
 
-// A case without input.
+// A case without input. A test has console and name as parameters up to here, where its case takes them.
 fn on<'a>(to: Console, name: &'a str, rows: &'a [u64]) -> Case<'a> {
     Case::new(to, name, rows, &[])
 }

@@ -10,6 +10,7 @@ fn say_same(to: Console, want: bool, found: bool) {
     to.say(format_args!("{wrong}, {same}"));
 }
 
+// Console and name are parameters here and in the tests below, since each comparison has its own name.
 fn compare(to: Console, name: &str, a: Cursor, b: Cursor, want: bool) {
     to.say(format_args!("sameness, {name}"));
     say_same(to, want, checkpoint::same_checkpoint(a, b));

@@ -26,7 +26,8 @@ const ROWS: [u64; 8] = [
     0x0000_0073,
 ];
 
-// A program, and the rows and starts that are expected of it.
+// A program, and the rows and starts that are expected of it. Where a run is said, and under which name,
+// is no part of it: each of a case's runs has a name of its own.
 #[derive(Clone, Copy)]
 struct Case<'a> {
     program: &'a [u32],

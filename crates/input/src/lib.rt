@@ -2,7 +2,7 @@
 // name.
 #![tactic(auto)]
 
-ghost use Rattle.std.specs.Prelude.{◌≡◌, ◌<◌, IfOk, length, take};
+ghost use Rattle.std.specs.Prelude.{◌≡◌, ◌<◌, ◌≤◌, IfOk, length, take};
 ghost use Rattle.std.specs.Io.KnownBytes.{Consumes, IsAtEnd};
 ghost use Rattle.input.specs.Input.{IsPrefixLen, count_of, outcome_of};
 
@@ -125,7 +125,9 @@ pub struct Opened<'a, F> {
     pub name: &'a str,
 }
 
-fn open<'a, R: Files>(rt: &R, path: &'a [u8]) -> io::Result<Opened<'a, R::File>> {
+fn open<'a, R: Files>(rt: &R, path: &'a [u8]) -> io::Result<Opened<'a, R::File>>
+    ensures { IfOk result (λ o. o.name.now ≡ path.now) }
+{
     let name = str::from_utf8(path).map_err(|_| io::Error::new(
         ErrorKind::InvalidFilename,
         "the name is not UTF-8",
@@ -139,7 +141,9 @@ pub fn open_argument<'a, R: Env + Files>(
     rt: &R,
     i: usize,
     path: &'a mut [u8],
-) -> Result<Opened<'a, R::File>, Failure<'a>> {
+) -> Result<Opened<'a, R::File>, Failure<'a>>
+    ensures { IfOk result (λ o. length o.name.now ≤ length path.old) }
+{
     let n = rt.arg(i, path).map_err(|e| Failure {
         what: b"argument",
         why: not_taken(e),

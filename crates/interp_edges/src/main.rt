@@ -34,7 +34,7 @@ const PAD0: Record = [0, 0, 35, 9, 40, 10, 0, 94, 0, 0, 0, 0, 0, 0, 0, 0, HLT];
 
 const PAD1: Record = [1, 40, 0, 9, 62, 32, 0, 94, 0, 0, 0, 1, 0, 0, 0, 0, HLT];
 
-// A case on M1's rows.
+// A case on M1's rows. A test has console and name as parameters up to here, where its case takes them.
 fn on_m1<'a>(to: Console, name: &'a str, cursor: Cursor) -> Case<'a> {
     Case::new(to, name, &M1, cursor)
 }
