@@ -1,7 +1,7 @@
 -- The segment call and the padding call: their refusals, what each returns and leaves in memory, and lists of them (01,
 -- "Padding cycle, segment call, padding call" and "Joined log and replay"). Assumes nothing: these are definitions.
 use Rattle.std.specs.Prelude.{ℕ, zero, suc, ◌+◌, ◌*◌, ◌^◌, Bool, true, false, not, ◌&&◌, Result, Ok, Err, List, [], ◌∷◌, ◌++◌, length, take, drop, ◌==◌, nat_lt}
-use Rattle.expand.specs.Expand.{Line, line, lowest, is_expansion}
+use Rattle.expand.specs.Expand.{Line, line, first_met, is_expansion}
 use Rattle.interp.specs.declared.Cursor.{Cursor}
 use Rattle.interp.specs.declared.CycleRecord.{CycleRecord}
 use Rattle.interp.specs.declared.Refusal.{Refusal}
@@ -76,7 +76,7 @@ refusals rows c seg n room = row_lines rows ++ call_lines (length rows) c seg n 
 
 -- the number that a call returns: 0 is accepted
 unfoldable pub refusal_of : List ℕ → Cursor → Call → ℕ
-refusal_of rows c k = lowest (refusals rows c (is_segment k) (amount k) (length (lent k)))
+refusal_of rows c k = first_met (refusals rows c (is_segment k) (amount k) (length (lent k)))
 
 -- what a call returns and leaves: its number, the cursor, and the record buffer
 pub record Answered : Type 0 where

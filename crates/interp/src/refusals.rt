@@ -1,6 +1,6 @@
 // Whether a call is accepted: the refusals of document 01's table, lowest number first.
 ghost use Rattle.std.specs.Prelude.{◌≡◌, ◌+◌, ◌*◌, ◌^◌, not, ◌&&◌, nat_lt};
-ghost use Rattle.expand.specs.Expand.{lowest};
+ghost use Rattle.expand.specs.Expand.{first_met};
 ghost use Rattle.interp.specs.Calls.{row_lines, call_lines, refusals, outcome_number};
 ghost use Rattle.interp.specs.Code.{wants_segment, length_of};
 ghost use Rattle.interp.specs.Execute.{length_lines, execute_refusals};
@@ -37,7 +37,7 @@ fn is_short(room: usize, n: u64) -> bool
 
 // The refusals that rows meet in every call.
 fn judge_rows(rows: &[u64]) -> Result<(), Refusal>
-    ensures { outcome_number result ≡ lowest (row_lines rows.now) }
+    ensures { outcome_number result ≡ first_met (row_lines rows.now) }
 {
     if rows.is_empty() {
         return Err(Refusal::NoRows);
@@ -53,7 +53,7 @@ fn judge_rows(rows: &[u64]) -> Result<(), Refusal>
 
 // The refusals of a segment call or a padding call that its rows do not meet.
 fn judge_cycles(count: usize, c: Cursor, request: Request, room: usize) -> Result<(), Refusal>
-    ensures { outcome_number result ≡ lowest (call_lines count c (wants_segment request) (length_of request) room) }
+    ensures { outcome_number result ≡ first_met (call_lines count c (wants_segment request) (length_of request) room) }
 {
     if is_outside(c.micro_pc, c.next_fetch, count) {
         return Err(Refusal::OutsideRows);
@@ -69,7 +69,7 @@ fn judge_cycles(count: usize, c: Cursor, request: Request, room: usize) -> Resul
 
 // The refusals of execute that its rows do not meet.
 fn judge_length(max_cycles: u64, room: usize) -> Result<(), Refusal>
-    ensures { outcome_number result ≡ lowest (length_lines max_cycles room) }
+    ensures { outcome_number result ≡ first_met (length_lines max_cycles room) }
 {
     if MAX_EXECUTE_CYCLES < max_cycles {
         return Err(Refusal::TooManyCycles);
@@ -87,7 +87,7 @@ pub(crate) fn judge_call(
     request: Request,
     room: usize,
 ) -> Result<(), Refusal>
-    ensures { outcome_number result ≡ lowest (refusals rows.now c (wants_segment request) (length_of request) room) }
+    ensures { outcome_number result ≡ first_met (refusals rows.now c (wants_segment request) (length_of request) room) }
 {
     judge_rows(rows)?;
     judge_cycles(rows.len(), c, request, room)
@@ -95,7 +95,7 @@ pub(crate) fn judge_call(
 
 // The refusals of execute.
 pub(crate) fn judge_execution(rows: &[u64], max_cycles: u64, room: usize) -> Result<(), Refusal>
-    ensures { outcome_number result ≡ lowest (execute_refusals rows.now max_cycles room) }
+    ensures { outcome_number result ≡ first_met (execute_refusals rows.now max_cycles room) }
 {
     judge_rows(rows)?;
     judge_length(max_cycles, room)

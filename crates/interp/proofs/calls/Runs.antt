@@ -2,7 +2,7 @@
 use Rattle.std.proofs.Common.{◌≡◌, ℕ, zero, suc, ◌+◌, ◌*◌, ◌<◌, Bool, true, false, cond, ◌&&◌, ltb, ◌≢◌, List, [], ◌∷◌, ◌++◌, map, length, take, drop, sym, refl, ap, ◌∙◌, ap₂, append_assoc, append-nil, suc-add, zero-add, arith, length-append, drop-drop, take_at, drop_at, ltb-true}
 use mathlib.Core.Bool.{and-eq-true_iff, false≢true}
 use borrow.Author.Tests.{not-false}
-use Rattle.expand.specs.Expand.{Line, lowest}
+use Rattle.expand.specs.Expand.{Line, first_met}
 use Rattle.interp.specs.declared.Cursor.{Cursor}
 use Rattle.interp.specs.declared.CycleRecord.{CycleRecord}
 use Rattle.interp.specs.Machine.{words, flat}
@@ -75,9 +75,9 @@ first_unmet : (b : Bool) (n x : ℕ) → cond b n x ≡ 0 → n ≢ 0 → (b ≡
 first_unmet true n x e h = absurd (h e)
 first_unmet false n x e h = (refl, e)
 
-unmet : (ls : List Line) → lowest ls ≡ 0 → Unmet ls
+unmet : (ls : List Line) → first_met ls ≡ 0 → Unmet ls
 unmet [] e = tt
-unmet (l ∷ ls) e = λ h. let u = first_unmet l.met l.number (lowest ls) e h in (u.0, unmet ls u.1)
+unmet (l ∷ ls) e = λ h. let u = first_unmet l.met l.number (first_met ls) e h in (u.0, unmet ls u.1)
 
 accepted_inside : (rows : List ℕ) (c : Cursor) (k : Call) → refusal_of rows c k ≡ 0 → c.next_fetch.0 < length rows
 unfolding refusal_of

@@ -2,7 +2,7 @@
 -- halted. Assumes nothing.
 use Rattle.std.proofs.Common.{◌≡◌, ℕ, zero, suc, ◌+◌, ◌-◌, ◌*◌, ◌^◌, ◌<◌, ◌≤◌, Bool, true, false, List, [], ◌∷◌, ◌++◌, length, take, drop, replicate, sym, refl, ap, ◌∙◌, ap₂, append_assoc, append-nil, zero-add, arith, length-append, take_at}
 use lib.ListN.{length-replicate}
-use Rattle.expand.specs.Expand.{lowest}
+use Rattle.expand.specs.Expand.{first_met}
 use Rattle.interp.specs.declared.Cursor.{Cursor}
 use Rattle.interp.specs.declared.Request.TheVariants.{Segment, Padding}
 use Rattle.interp.specs.Machine.{start_of, flat}
@@ -164,7 +164,7 @@ execute_accepted : (rows input : List ℕ) (max : ℕ) (b : List ℕ) → (execu
     → (execute_of rows input max b ≡ executed rows (start_of input) max b) × (max ≤ 2 ^ 32)
 unfolding execute_of
 execute_accepted rows input max b e =
-    let none = sym (execution_for-number (lowest (execute_refusals rows max (length b))) rows input max b) ∙ e in
+    let none = sym (execution_for-number (first_met (execute_refusals rows max (length b))) rows input max b) ∙ e in
     (accepted_is rows input max b (sym none), (accepted_execution rows input max (length b) none).1.0)
 
 counts : (rows input : List ℕ) (max : ℕ) (b : List ℕ) → (execute_of rows input max b).number ≡ 0 → Counts rows input max (execute_of rows input max b)
@@ -182,7 +182,7 @@ larger rows input max more b₁ b₂ e₁ h le e₂ =
 
 -- two accepted calls, one after the other: their log, and their last cursor
 two_calls : (rows : List ℕ) (c : Cursor) (m n : ℕ) (z₁ z₂ : List ℕ)
-    → 0 ≡ lowest (refusals rows c true m (length z₁)) → 0 ≡ lowest (refusals rows (end (cycle rows) m c) false n (length z₂))
+    → 0 ≡ first_met (refusals rows c true m (length z₁)) → 0 ≡ first_met (refusals rows (end (cycle rows) m c) false n (length z₂))
     → (log rows c (segment m z₁ ∷ padded n z₂ ∷ []) ≡ flat (recorded (cycle rows) m c) ++ flat (recorded (padding rows) n (end (cycle rows) m c)))
     × (last rows c (segment m z₁ ∷ padded n z₂ ∷ []) ≡ end (padding rows) n (end (cycle rows) m c))
 unfolding log last added counted amount
@@ -197,7 +197,7 @@ two_calls rows c m n z₁ z₂ e₁ e₂ =
       ap (λ (d : Cursor). (answer_of rows d (padded n z₂)).cursor) (ap cursor a₁) ∙ ap cursor a₂,
     )
 
-executed-joined : (rows input : List ℕ) (max : ℕ) (b : List ℕ) → lowest (execute_refusals rows max (length b)) ≡ 0
+executed-joined : (rows input : List ℕ) (max : ℕ) (b : List ℕ) → first_met (execute_refusals rows max (length b)) ≡ 0
     → Joined rows input (executed rows (start_of input) max b)
 unfolding executed start_of
 executed-joined rows input max b e =
@@ -222,12 +222,12 @@ executed-joined rows input max b e =
 joined : (rows input : List ℕ) (max : ℕ) (b : List ℕ) → (execute_of rows input max b).number ≡ 0 → Joined rows input (execute_of rows input max b)
 unfolding execute_of
 joined rows input max b e =
-    let none = sym (execution_for-number (lowest (execute_refusals rows max (length b))) rows input max b) ∙ e in
+    let none = sym (execution_for-number (first_met (execute_refusals rows max (length b))) rows input max b) ∙ e in
     rw (accepted_is rows input max b (sym none)) (executed-joined rows input max b none)
 
 execute_cycles : (rows input : List ℕ) (max : ℕ) (b : List ℕ) → (execute_of rows input max b).cursor.cycles ≡ (execute_of rows input max b).live_count
 unfolding execute_of
-execute_cycles rows input max b = execution_for-cycles (lowest (execute_refusals rows max (length b))) rows input max b
+execute_cycles rows input max b = execution_for-cycles (first_met (execute_refusals rows max (length b))) rows input max b
 
 pub execute_laws : ExecuteLaws
 execute_laws =

@@ -2,7 +2,7 @@
 use Rattle.std.proofs.Common.{◌≡◌, ℕ, zero, suc, ◌+◌, ◌*◌, ◌^◌, ◌<◌, ◌≤◌, Bool, true, false, cond, not, ◌&&◌, eqb, ltb, List, [], ◌++◌, length, drop, sym, refl, ◌∙◌, arith, ltb-false, ltb-true, le-ltb, lt-ltb, ne_eqb}
 use mathlib.Core.Bool.{false≢true}
 use borrow.Author.Tests.{eqb-false}
-use Rattle.expand.specs.Expand.{Line, lowest, is_expansion}
+use Rattle.expand.specs.Expand.{Line, first_met, is_expansion}
 use Rattle.interp.specs.declared.Cursor.{Cursor}
 use Rattle.interp.specs.declared.Refusal.{Refusal}
 use Rattle.interp.specs.declared.Refusal.TheVariants.{NoRows, TooManyRows, NoExpansion, OutsideRows, TooManyCycles, Short}
@@ -40,8 +40,8 @@ pub refused_not_0 : (why : Refusal) → eqb (refusal_number why) 0 ≡ false
 refused_not_0 why = ne_eqb (refusal_number why) 0 (omega (arith, refused_pos why))
 
 -- rows of an accepted call meet no line, and no other line is met
-rows_unmet : (rows : List ℕ) (rest : List Line) → lowest (row_lines rows ++ rest) ≡ 0
-    → (eqb (length rows) 0 ≡ false) × (ltb 6291456 (length rows) ≡ false) × (not (is_expansion rows) ≡ false) × (lowest rest ≡ 0)
+rows_unmet : (rows : List ℕ) (rest : List Line) → first_met (row_lines rows ++ rest) ≡ 0
+    → (eqb (length rows) 0 ≡ false) × (ltb 6291456 (length rows) ≡ false) × (not (is_expansion rows) ≡ false) × (first_met rest ≡ 0)
 rows_unmet rows rest e =
     let p₁ = unmet (eqb (length rows) 0) 1 _ (omega arith) e in
     let p₂ = unmet (ltb 6291456 (length rows)) 2 _ (omega arith) p₁.1 in
@@ -49,16 +49,16 @@ rows_unmet rows rest e =
     (p₁.0, p₂.0, p₃.0, p₃.1)
 
 -- rows that meet no line leave it to the other lines
-rows_passed : (rows : List ℕ) (rest : List Line) → 0 ≡ lowest (row_lines rows) → lowest rest ≡ lowest (row_lines rows ++ rest)
+rows_passed : (rows : List ℕ) (rest : List Line) → 0 ≡ first_met (row_lines rows) → first_met rest ≡ first_met (row_lines rows ++ rest)
 rows_passed rows rest e = let u = rows_unmet rows [] (sym e) in rw (u.0, u.1, u.2) refl
 
 -- what rows have in an accepted call: there are some, they meet no line, and no other line is met
 pub record Passed (rows : List ℕ) (rest : List Line) : Type 0 where
   pub some : 0 < length rows
-  pub none : 0 ≡ lowest (row_lines rows)
-  pub others : lowest rest ≡ 0
+  pub none : 0 ≡ first_met (row_lines rows)
+  pub others : first_met rest ≡ 0
 
-pub rows_accepted : (rows : List ℕ) (rest : List Line) → lowest (row_lines rows ++ rest) ≡ 0 → Passed rows rest
+pub rows_accepted : (rows : List ℕ) (rest : List Line) → first_met (row_lines rows ++ rest) ≡ 0 → Passed rows rest
 rows_accepted rows rest e =
     let u = rows_unmet rows rest e in
     record { some = omega (arith, eqb-false (length rows) 0 u.0); none = rw (u.0, u.1, u.2) refl; others = u.3 }
@@ -76,7 +76,7 @@ upto_n (Segment n) = omega arith
 upto_n (Padding n) = omega arith
 
 pub accepted : (rows : List ℕ) (c : Cursor) (request : Request) (room : ℕ)
-    → 0 ≡ lowest (refusals rows c (wants_segment request) (length_of request) room)
+    → 0 ≡ first_met (refusals rows c (wants_segment request) (length_of request) room)
     → Ready (length rows) (core_of c) (limit_of request) room × Room (Exactly (length_of request)) (limit_of request) room
 accepted rows c request room e =
     let p₃ = rows_accepted rows (call_lines (length rows) c (wants_segment request) (length_of request) room) (sym e) in
@@ -95,7 +95,7 @@ accepted rows c request room e =
     )
 
 -- an accepted execution begins at row 0
-pub accepted_execution : (rows input : List ℕ) (max room : ℕ) → lowest (execute_refusals rows max room) ≡ 0
+pub accepted_execution : (rows input : List ℕ) (max room : ℕ) → first_met (execute_refusals rows max room) ≡ 0
     → Ready (length rows) (core_of (start_of input)) max room × ((max ≤ 2 ^ 32) × Room PowerOfTwo max room)
 unfolding start_of
 accepted_execution rows input max room e =
@@ -116,9 +116,9 @@ accepted_execution rows input max room e =
     )
 
 -- on rows that are accepted, a call at a row of theirs is accepted if it fits
-pub fits_accepted : (rows : List ℕ) (c : Cursor) (seg : Bool) (n room : ℕ) → 0 ≡ lowest (row_lines rows)
+pub fits_accepted : (rows : List ℕ) (c : Cursor) (seg : Bool) (n room : ℕ) → 0 ≡ first_met (row_lines rows)
     → c.micro_pc.0 < length rows → c.next_fetch.0 < length rows → cond seg (c.cycles + n) 0 ≤ 2 ^ 62 → 17 * n ≤ room
-    → 0 ≡ lowest (refusals rows c seg n room)
+    → 0 ≡ first_met (refusals rows c seg n room)
 fits_accepted rows c seg n room none pc fetch few fits =
     sym (rw (lt-ltb _ _ pc, lt-ltb _ _ fetch, not_long seg few, le-ltb room (17 * n) fits) refl) ∙ rows_passed rows (call_lines (length rows) c seg n room) none
   where
@@ -130,7 +130,7 @@ fits_accepted rows c seg n room none pc fetch few fits =
 
 -- the number that a call returns is that of the tests
 judged : (request : Request) (rows : List ℕ) (c : Cursor) (buffer : List ℕ)
-    → lowest (refusals rows c (wants_segment request) (length_of request) (length buffer)) ≡ refusal_of rows c (call_of request buffer)
+    → first_met (refusals rows c (wants_segment request) (length_of request) (length buffer)) ≡ refusal_of rows c (call_of request buffer)
 unfolding refusal_of is_segment amount lent
 judged (Segment n) rows c buffer = refl
 judged (Padding n) rows c buffer = refl
@@ -148,7 +148,7 @@ lent_is (Segment n) buffer = refl
 lent_is (Padding n) buffer = refl
 
 pub refused_answer : (why : Refusal) (request : Request) (rows : List ℕ) (c : Cursor) (buffer : List ℕ)
-    → refusal_number why ≡ lowest (refusals rows c (wants_segment request) (length_of request) (length buffer))
+    → refusal_number why ≡ first_met (refusals rows c (wants_segment request) (length_of request) (length buffer))
     → answer_of rows c (call_of request buffer) ≡ record { number = refusal_number why; cursor = c; buffer = buffer }
 unfolding answer_of
 refused_answer why request rows c buffer e =
@@ -163,7 +163,7 @@ ran (Segment n) rows c buffer = refl
 ran (Padding n) rows c buffer = refl
 
 pub accepted_answer : (request : Request) (rows : List ℕ) (c : Cursor) (buffer : List ℕ)
-    → 0 ≡ lowest (refusals rows c (wants_segment request) (length_of request) (length buffer))
+    → 0 ≡ first_met (refusals rows c (wants_segment request) (length_of request) (length buffer))
     → answer_of rows c (call_of request buffer)
     ≡ record { number = 0; cursor = end (step_of request rows) (length_of request) c; buffer = flat (recorded (step_of request rows) (length_of request) c) ++ drop (17 * length_of request) buffer }
 unfolding answer_of
@@ -178,12 +178,12 @@ refused_execution_leaves zero rows input max buffer p = absurd (omega arith)
 refused_execution_leaves (suc number) rows input max buffer p = refl
 
 pub refused_execution : (why : Refusal) (rows input : List ℕ) (max : ℕ) (buffer : List ℕ)
-    → refusal_number why ≡ lowest (execute_refusals rows max (length buffer))
+    → refusal_number why ≡ first_met (execute_refusals rows max (length buffer))
     → execute_of rows input max buffer ≡ record { number = refusal_number why; live_count = 0; record_count = 0; cursor = start_of []; buffer = buffer }
 unfolding execute_of
 refused_execution why rows input max buffer e = rw (sym e) (refused_execution_leaves _ rows input max buffer (refused_pos why))
 
-pub accepted_is : (rows input : List ℕ) (max : ℕ) (buffer : List ℕ) → 0 ≡ lowest (execute_refusals rows max (length buffer))
+pub accepted_is : (rows input : List ℕ) (max : ℕ) (buffer : List ℕ) → 0 ≡ first_met (execute_refusals rows max (length buffer))
     → execute_of rows input max buffer ≡ executed rows (start_of input) max buffer
 unfolding execute_of execution_for
 accepted_is rows input max buffer e = rw (sym e) refl
