@@ -1,7 +1,7 @@
 // One cycle: `commit` does what an arm says and writes the record of it.
 ghost use Rattle.std.specs.Prelude.{◌≡◌, ◌+◌, ◌*◌, ◌^◌, ◌<◌, length, if◌then◌else◌};
 ghost use Rattle.interp.specs.Machine.{words};
-ghost use Rattle.interp.specs.Cycle.{accumulator, row_after, record_of, scratched, regs_after, ram_after, commit, step_at, frozen_at};
+ghost use Rattle.interp.specs.Cycle.{accumulator, stage_arm, row_after, record_of, scratched, regs_after, ram_after, commit, step_at, frozen_at};
 ghost use Rattle.interp.specs.Code.{InRange, Sound, whole};
 
 use crate::arms::{
@@ -199,6 +199,14 @@ fn next_row(at: MicroPc, count: usize) -> MicroPc
     }
 }
 
+// The effect of a stage of a shift, with the accumulator from where it lies.
+fn stage_of(stage: usize, row: RomRow, next: MicroPc, memory: &Memory) -> Effect
+    requires { InRange row }
+    ensures { result ≡ stage_arm stage row next (accumulator memory.now.regs) memory.now.regs }
+{
+    stage_arm(stage, row, next, memory.accumulator(), &memory.regs)
+}
+
 // One live cycle, `step`, of the row at micro_pc. Each arm ends the cycle itself: the compiler then knows which parts of
 // its effect are 0.
 pub(crate) fn live_cycle(
@@ -215,13 +223,9 @@ pub(crate) fn live_cycle(
     let mp = core.micro_pc;
     let next = next_row(mp, count);
     match row.kind {
-        VirtualKind::Alu => {
-            let e = alu_arm(row, next, &memory.regs);
-            commit(row, core, e, memory, out)
-        }
+        VirtualKind::Alu => { commit(row, core, alu_arm(row, next, &memory.regs), memory, out) }
         VirtualKind::ShiftStage { stage } => {
-            let e = stage_arm(stage, row, next, memory.accumulator(), &memory.regs);
-            commit(row, core, e, memory, out)
+            commit(row, core, stage_of(stage, row, next, memory), memory, out)
         }
         VirtualKind::Load => {
             let e = load_arm(row, next, &memory.regs, &memory.ram);
@@ -243,10 +247,7 @@ pub(crate) fn live_cycle(
             let e = jump_arm(row, mp, count, &memory.regs);
             commit(row, core, e, memory, out)
         }
-        VirtualKind::System => {
-            let e = system_arm(row, mp, &memory.regs);
-            commit(row, core, e, memory, out)
-        }
+        VirtualKind::System => { commit(row, core, system_arm(row, mp, &memory.regs), memory, out) }
     }
 }
 

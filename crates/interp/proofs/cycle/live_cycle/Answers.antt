@@ -6,7 +6,7 @@ use Rattle.interp.specs.declared.effect.Effect.{Effect}
 use Rattle.interp.specs.Cycle.{accumulator, arm_of, step_at}
 use Rattle.interp.specs.Code.{InRange, Sound}
 use Rattle.interp.proofs.arms.Lawful.{arm_lawful}
-use Rattle.interp.proofs.cycle.live_cycle.Goals.{After-alu_arm-e, After-branch_arm-e, After-jump_arm-e, After-load_arm-e, After-stage_arm-e, After-store_arm-e, After-system_arm-e, After-upper_arm-e}
+use Rattle.interp.proofs.cycle.live_cycle.Goals.{After-alu_arm, After-branch_arm-e, After-jump_arm-e, After-load_arm-e, After-stage_of, After-store_arm-e, After-system_arm, After-upper_arm-e}
 use Rattle.interp.proofs.cycle.live_cycle.Goals as goal
 
 -- the definition's effect of the row
@@ -22,13 +22,13 @@ may_commit row core count regs ram e h r =
     (r.0, (rw h lawful.sound, r.1.0))
 
 -- what each arm answers is that effect
-alu_is : (c : After-alu_arm-e) → c.alu_arm-e.result ≡ the_effect c.args.row c.args.core c.args.count c.args.memory.now.regs c.args.memory.now.ram
+alu_is : (c : After-alu_arm) → c.alu_arm.result ≡ the_effect c.args.row c.args.core c.args.count c.args.memory.now.regs c.args.memory.now.ram
 unfolding arm_of
-alu_is c = simp (c.in-Alu.is, c.alu_arm-e.ensures, c.next_row-next.ensures)
+alu_is c = simp (c.in-Alu.is, c.alu_arm.ensures, c.next_row-next.ensures)
 
-stage_is : (c : After-stage_arm-e) → c.stage_arm-e.result ≡ the_effect c.args.row c.args.core c.args.count c.args.memory.now.regs c.args.memory.now.ram
+stage_is : (c : After-stage_of) → c.stage_of.result ≡ the_effect c.args.row c.args.core c.args.count c.args.memory.now.regs c.args.memory.now.ram
 unfolding arm_of
-stage_is c = simp (c.in-ShiftStage.is, c.stage_arm-e.ensures, c.accumulator.ensures, c.next_row-next.ensures)
+stage_is c = simp (c.in-ShiftStage.is, c.stage_of.ensures, c.next_row-next.ensures)
 
 load_is : (c : After-load_arm-e) → c.load_arm-e.result ≡ the_effect c.args.row c.args.core c.args.count c.args.memory.now.regs c.args.memory.now.ram
 unfolding arm_of
@@ -50,15 +50,15 @@ jump_is : (c : After-jump_arm-e) → c.jump_arm-e.result ≡ the_effect c.args.r
 unfolding arm_of
 jump_is c = simp (c.in-Jump.is, c.jump_arm-e.ensures)
 
-system_is : (c : After-system_arm-e) → c.system_arm-e.result ≡ the_effect c.args.row c.args.core c.args.count c.args.memory.now.regs c.args.memory.now.ram
+system_is : (c : After-system_arm) → c.system_arm.result ≡ the_effect c.args.row c.args.core c.args.count c.args.memory.now.regs c.args.memory.now.ram
 unfolding arm_of
-system_is c = simp (c.in-System.is, c.system_arm-e.ensures)
+system_is c = simp (c.in-System.is, c.system_arm.ensures)
 
 pub commit-requires : goal.commit-requires
-commit-requires c = may_commit c.args.row c.args.core c.args.count c.args.memory.now.regs c.args.memory.now.ram _ (alu_is (goal.at.commit-requires c).After-alu_arm-e) c.requires
+commit-requires c = may_commit c.args.row c.args.core c.args.count c.args.memory.now.regs c.args.memory.now.ram _ (alu_is (goal.at.commit-requires c).After-alu_arm) c.requires
 
 pub commit-requires-in-ShiftStage : goal.commit-requires-in-ShiftStage
-commit-requires-in-ShiftStage c = may_commit c.args.row c.args.core c.args.count c.args.memory.now.regs c.args.memory.now.ram _ (stage_is (goal.at.commit-requires-in-ShiftStage c).After-stage_arm-e) c.requires
+commit-requires-in-ShiftStage c = may_commit c.args.row c.args.core c.args.count c.args.memory.now.regs c.args.memory.now.ram _ (stage_is (goal.at.commit-requires-in-ShiftStage c).After-stage_of) c.requires
 
 pub commit-requires-in-Load : goal.commit-requires-in-Load
 commit-requires-in-Load c = may_commit c.args.row c.args.core c.args.count c.args.memory.now.regs c.args.memory.now.ram _ (load_is (goal.at.commit-requires-in-Load c).After-load_arm-e) c.requires
@@ -76,18 +76,18 @@ pub commit-requires-in-Jump : goal.commit-requires-in-Jump
 commit-requires-in-Jump c = may_commit c.args.row c.args.core c.args.count c.args.memory.now.regs c.args.memory.now.ram _ (jump_is (goal.at.commit-requires-in-Jump c).After-jump_arm-e) c.requires
 
 pub commit-requires-in-System : goal.commit-requires-in-System
-commit-requires-in-System c = may_commit c.args.row c.args.core c.args.count c.args.memory.now.regs c.args.memory.now.ram _ (system_is (goal.at.commit-requires-in-System c).After-system_arm-e) c.requires
+commit-requires-in-System c = may_commit c.args.row c.args.core c.args.count c.args.memory.now.regs c.args.memory.now.ram _ (system_is (goal.at.commit-requires-in-System c).After-system_arm) c.requires
 
 pub returns-in-Alu : goal.returns-in-Alu
 unfolding step_at
-returns-in-Alu c = let done = c.commit.ensures in let e = alu_is (goal.at.returns-in-Alu c).After-alu_arm-e in record {
+returns-in-Alu c = let done = c.commit.ensures in let e = alu_is (goal.at.returns-in-Alu c).After-alu_arm in record {
   cursor = done.cursor ∙ rw e refl;
   shown = done.shown ∙ rw e refl;
 }
 
 pub returns-in-ShiftStage : goal.returns-in-ShiftStage
 unfolding step_at
-returns-in-ShiftStage c = let done = c.commit-in-ShiftStage.ensures in let e = stage_is (goal.at.returns-in-ShiftStage c).After-stage_arm-e in record {
+returns-in-ShiftStage c = let done = c.commit-in-ShiftStage.ensures in let e = stage_is (goal.at.returns-in-ShiftStage c).After-stage_of in record {
   cursor = done.cursor ∙ rw e refl;
   shown = done.shown ∙ rw e refl;
 }
@@ -129,7 +129,7 @@ returns-in-Jump c = let done = c.commit-in-Jump.ensures in let e = jump_is (goal
 
 pub returns-in-System : goal.returns-in-System
 unfolding step_at
-returns-in-System c = let done = c.commit-in-System.ensures in let e = system_is (goal.at.returns-in-System c).After-system_arm-e in record {
+returns-in-System c = let done = c.commit-in-System.ensures in let e = system_is (goal.at.returns-in-System c).After-system_arm in record {
   cursor = done.cursor ∙ rw e refl;
   shown = done.shown ∙ rw e refl;
 }
