@@ -7,10 +7,12 @@ use Rattle.interp.specs.Calls.{recorded, end}
 use Rattle.interp.specs.Laws.{Running, CycleLaws}
 use Rattle.interp.specs.Readings.{Signed}
 use Rattle.interp.specs.Execute.{ExecuteLaws}
+use Rattle.interp.specs.Demand3.{Demand3}
 use Rattle.interp.proofs.values.Readings.{signed_claims}
 use Rattle.interp.proofs.executing.Executing.{execute_laws}
 use Rattle.interp.proofs.arms.Flags.{alu_flags_lt}
 use Rattle.interp.proofs.calls.Runs.{end-suc}
+use Rattle.interp.proofs.calls.Demand3.{demand3}
 use Rattle.interp.proofs.refusals.Judged.{refused_not_0}
 use Rattle.interp.proofs.Sizes.{start_sized, live_sized, padding_sized, answer_sized, execute_sized}
 
@@ -68,6 +70,9 @@ laws =
 
 pub readings : Signed
 readings = signed_claims
+
+pub demand : Demand3
+demand = demand3
 
 pub executions : ExecuteLaws
 executions = execute_laws

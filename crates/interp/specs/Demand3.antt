@@ -2,8 +2,9 @@
 -- `segments` are of Calls, over the answers that the calls' contracts give; `replay` is of Replay. The function `demand_3` of
 -- src/calls.rt has the whole for its contract. Assumes nothing: these are definitions.
 use Rattle.std.specs.Prelude.{◌≡◌, ℕ, ◌*◌, ◌<◌, ◌≤◌, true, ◌≢◌, List, [], length, take, drop, slice_index, slice_index_or}
+use Rattle.interp.specs.declared.Cursor.{Cursor}
 use Rattle.interp.specs.Machine.{row_at, loaded, start_of}
-use Rattle.interp.specs.Calls.{Call, log, last, total, segments}
+use Rattle.interp.specs.Calls.{Call, answer_of, counted, added, log, last, total, segments}
 use Rattle.interp.specs.Replay.{replay, records_in, word, stored}
 
 -- ---- the replay
@@ -54,6 +55,8 @@ pub record Ends (rows input : List ℕ) (calls : List Call) (rs : List (List ℕ
 
 -- for every list of calls; for every two lists of segment calls; for every record of every joined log
 pub record Demand3 : Type 0 where
+  -- what a single call adds has 17 words a cycle
+  pub added_sized : (rows : List ℕ) (c : Cursor) (k : Call) → length (added k (answer_of rows c k)) ≡ 17 * counted (answer_of rows c k).number k
   pub replays : (rows input : List ℕ) (calls : List Call) → Replays rows input calls
   pub prefixes : (rows input : List ℕ) (xs ys : List Call) → segments xs ≡ true → segments ys ≡ true → Prefixes rows input xs ys
   pub reads : (rows input : List ℕ) (calls : List Call) (k : ℕ) → k < length (records_in (log rows (start_of input) calls))

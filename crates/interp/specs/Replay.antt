@@ -1,6 +1,7 @@
 -- The replay of a log: it is fed the input, the rows and the log's words, and knows nothing of the machine (01, "Joined log
 -- and replay"). Assumes nothing: these are definitions.
-use Rattle.std.specs.Prelude.{ℕ, zero, suc, ◌/◌, ◌%◌, Bool, true, cond, ◌&&◌, List, [], ◌∷◌, length, take, drop, replicate, ◌==◌, nat_lt, slice_index, slice_set}
+use Rattle.std.specs.Prelude.{ℕ, ◌/◌, ◌%◌, Bool, true, cond, ◌&&◌, List, [], ◌∷◌, length, replicate, ◌==◌, nat_lt, slice_index, slice_set}
+use Rattle.std.specs.Simd.{first_chunks}
 use Rattle.interp.specs.Machine.{row_at, loaded}
 
 -- the replay's state, and whether every "must" so far held
@@ -58,14 +59,9 @@ unfoldable pub feed : List ℕ → Replay → List (List ℕ) → Replay
 feed rows s [] = s
 feed rows s (r ∷ rs) = feed rows (fed rows s r) rs
 
--- the first n records of a log, 17 words each
-unfoldable pub chunks : ℕ → List ℕ → List (List ℕ)
-chunks zero ws = []
-chunks (suc n) ws = take 17 ws ∷ chunks n (drop 17 ws)
-
--- the records of a log
+-- the records of a log: its chunks of 17 words
 unfoldable pub records_in : List ℕ → List (List ℕ)
-records_in ws = chunks (length ws / 17) ws
+records_in ws = first_chunks 17 (length ws / 17) ws
 
 -- the replay of a whole log
 unfoldable pub replay : List ℕ → List ℕ → List ℕ → Replay

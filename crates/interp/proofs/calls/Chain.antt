@@ -1,10 +1,11 @@
 -- A chain of honest cycles, and that the replay follows it: nothing here knows a cycle, a call or an arm. Assumes nothing.
 use Rattle.std.proofs.Common.{◌≡◌, ℕ, zero, suc, ◌*◌, ◌<◌, Bool, true, false, cond, ◌&&◌, eqb, ltb, List, [], ◌∷◌, ◌++◌, map, length, get_or, drop, set, sym, refl, ap, ◌∙◌, arith, lt-ltb, eq-eqb}
 use mathlib.Core.Bool.{and-eq-true_iff, false≢true}
+use Rattle.std.specs.Simd.{first_chunks}
 use Rattle.interp.specs.declared.Cursor.{Cursor}
 use Rattle.interp.specs.declared.CycleRecord.{CycleRecord}
 use Rattle.interp.specs.Machine.{row_at, words, flat}
-use Rattle.interp.specs.Replay.{Replay, word, stored, reads, all, musts, fed, feed, chunks}
+use Rattle.interp.specs.Replay.{Replay, word, stored, reads, all, musts, fed, feed}
 use Rattle.interp.proofs.cycle.Honest.{Honest}
 
 -- ---- all tests of a list pass: each of them does
@@ -106,7 +107,7 @@ unfolding flat words
 length-flat [] = refl
 length-flat (r ∷ rs) = omega (arith, length-flat rs)
 
-pub chunks-flat : (rs : List CycleRecord) → chunks (length rs) (flat rs) ≡ map words rs
-unfolding flat words chunks
+pub chunks-flat : (rs : List CycleRecord) → first_chunks 17 (length rs) (flat rs) ≡ map words rs
+unfolding flat words
 chunks-flat [] = refl
 chunks-flat (r ∷ rs) = ap (λ k. words r ∷ k) (chunks-flat rs)

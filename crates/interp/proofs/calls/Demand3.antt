@@ -1,14 +1,15 @@
 -- The proof of demand 3, from the chain of honest cycles that a list of calls is. Assumes nothing.
 use Rattle.std.proofs.Common.{◌≡◌, ℕ, ◌-◌, ◌*◌, ◌/◌, ◌<◌, ◌≤◌, true, List, map, length, get_or, take, sym, refl, ap, ◌∙◌, add-sub_of_le, arith, take_at}
+use Rattle.std.specs.Simd.{first_chunks}
 use Rattle.interp.specs.declared.Cursor.{Cursor}
 use Rattle.interp.specs.declared.CycleRecord.{CycleRecord}
 use Rattle.interp.specs.Machine.{start_of, words, flat}
 use Rattle.interp.specs.Cycle.{cycle}
 use Rattle.interp.specs.Calls.{Call, recorded, end, log, last, total, segments}
-use Rattle.interp.specs.Replay.{fresh, feed, chunks, records_in, replay}
+use Rattle.interp.specs.Replay.{fresh, feed, records_in, replay}
 use Rattle.interp.specs.Demand3.{Demand3, Replays, Prefixes, Reads, Ends}
 use Rattle.interp.proofs.calls.Chain.{Follows, feed-follows, get_or-past, length-flat, chunks-flat}
-use Rattle.interp.proofs.calls.Runs.{trace, log_trace, length_trace, calls_chain, one_run, recorded-add, flat_append, length-words}
+use Rattle.interp.proofs.calls.Runs.{trace, added_sized, log_trace, length_trace, calls_chain, one_run, recorded-add, flat_append, length-words}
 use Rattle.interp.proofs.calls.Latest.{last-write, last-store, shows}
 
 -- ---- the replay
@@ -17,7 +18,7 @@ records-flat : (rs : List CycleRecord) → records_in (flat rs) ≡ map words rs
 unfolding records_in
 records-flat rs =
     let n : length (flat rs) / 17 ≡ length rs = omega (arith, length-flat rs) in
-    ap (λ k. chunks k (flat rs)) n ∙ chunks-flat rs
+    ap (λ k. first_chunks 17 k (flat rs)) n ∙ chunks-flat rs
 
 follows-start : (input : List ℕ) → Follows (fresh input) (start_of input)
 unfolding fresh start_of
@@ -96,4 +97,4 @@ module _ (rows input : List ℕ) (calls : List Call) where
 -- ---- the whole
 
 pub demand3 : Demand3
-demand3 = record { replays = replays; prefixes = prefixes; reads = read; ends = ends }
+demand3 = record { added_sized = added_sized; replays = replays; prefixes = prefixes; reads = read; ends = ends }

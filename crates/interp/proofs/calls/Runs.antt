@@ -1,8 +1,9 @@
 -- n cycles, calls, and lists of calls: what they record and where they end. Assumes nothing.
-use Rattle.std.proofs.Common.{◌≡◌, ℕ, zero, suc, ◌+◌, ◌*◌, ◌<◌, Bool, true, false, cond, ◌&&◌, ltb, ◌≢◌, List, [], ◌∷◌, ◌++◌, map, length, take, drop, sym, refl, ap, ◌∙◌, ap₂, append_assoc, append-nil, suc-add, zero-add, arith, length-append, drop-drop, take_at, drop_at, ltb-true}
+use Rattle.std.proofs.Common.{◌≡◌, ℕ, zero, suc, ◌+◌, ◌*◌, ◌<◌, true, false, ◌&&◌, ltb, ◌≢◌, List, [], ◌∷◌, ◌++◌, map, length, take, drop, sym, refl, ap, ◌∙◌, ap₂, append_assoc, append-nil, suc-add, zero-add, arith, length-append, drop-drop, take_at, drop_at, ltb-true}
 use mathlib.Core.Bool.{and-eq-true_iff, false≢true}
 use borrow.Author.Tests.{not-false}
 use Rattle.expand.specs.Expand.{Line, first_met}
+use Rattle.expand.proofs.Tables.{unmet}
 use Rattle.interp.specs.declared.Cursor.{Cursor}
 use Rattle.interp.specs.declared.CycleRecord.{CycleRecord}
 use Rattle.interp.specs.Machine.{words, flat}
@@ -71,20 +72,16 @@ abbrev Unmet : List Line → Type 0
 Unmet [] = Unit {0}
 Unmet (l ∷ ls) = l.number ≢ 0 → (l.met ≡ false) × Unmet ls
 
-first_unmet : (b : Bool) (n x : ℕ) → cond b n x ≡ 0 → n ≢ 0 → (b ≡ false) × (x ≡ 0)
-first_unmet true n x e h = absurd (h e)
-first_unmet false n x e h = (refl, e)
-
-unmet : (ls : List Line) → first_met ls ≡ 0 → Unmet ls
-unmet [] e = tt
-unmet (l ∷ ls) e = λ h. let u = first_unmet l.met l.number (first_met ls) e h in (u.0, unmet ls u.1)
+all_unmet : (ls : List Line) → first_met ls ≡ 0 → Unmet ls
+all_unmet [] e = tt
+all_unmet (l ∷ ls) e = λ h. let u = unmet l.met l.number (first_met ls) h e in (u.0, all_unmet ls u.1)
 
 accepted_inside : (rows : List ℕ) (c : Cursor) (k : Call) → refusal_of rows c k ≡ 0 → c.next_fetch.0 < length rows
 unfolding refusal_of
 accepted_inside rows c k e =
     let pc = ltb c.micro_pc.0 (length rows) in
     let fetch = ltb c.next_fetch.0 (length rows) in
-    let lines = unmet (refusals rows c (is_segment k) (amount k) (length (lent k))) e in
+    let lines = all_unmet (refusals rows c (is_segment k) (amount k) (length (lent k))) e in
     let fourth = ((((lines (omega arith)).1 (omega arith)).1 (omega arith)).1 (omega arith)).0 in
     ltb-true _ _ ((and-eq-true_iff pc fetch).0 (not-false (pc && fetch) fourth)).1
 
@@ -137,6 +134,13 @@ length_did : (number : ℕ) (rows : List ℕ) (c : Cursor) (k : Call) → length
 unfolding did counted settled
 length_did zero rows c k = length-recorded (turn k rows) (amount k) c
 length_did (suc number) rows c k = refl
+
+-- a call adds 17 words a cycle
+pub added_sized : (rows : List ℕ) (c : Cursor) (k : Call) → length (added k (answer_of rows c k)) ≡ 17 * counted (answer_of rows c k).number k
+unfolding answer_of
+added_sized rows c k =
+    let number = refusal_of rows c k in
+    ap length (added_did number rows c k) ∙ length-flat (did number rows c k) ∙ ap (λ n. 17 * n) (length_did number rows c k)
 
 pub length_trace : (rows : List ℕ) (c : Cursor) (ks : List Call) → length (trace rows c ks) ≡ total rows c ks
 unfolding trace total answer_of

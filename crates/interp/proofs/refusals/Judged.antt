@@ -3,6 +3,7 @@ use Rattle.std.proofs.Common.{◌≡◌, ℕ, zero, suc, ◌+◌, ◌*◌, ◌^�
 use mathlib.Core.Bool.{false≢true}
 use borrow.Author.Tests.{eqb-false}
 use Rattle.expand.specs.Expand.{Line, first_met, is_expansion}
+use Rattle.expand.proofs.Tables.{unmet}
 use Rattle.interp.specs.declared.Cursor.{Cursor}
 use Rattle.interp.specs.declared.Refusal.{Refusal}
 use Rattle.interp.specs.declared.Refusal.TheVariants.{NoRows, TooManyRows, NoExpansion, OutsideRows, TooManyCycles, Short}
@@ -14,11 +15,6 @@ use Rattle.interp.specs.Code.{core_of, Ready, Room, wants_segment, length_of, li
 use Rattle.interp.specs.Calls.{recorded, end, Call, call_of, is_segment, amount, lent, turn, row_lines, call_lines, refusals, refusal_of, settled, answer_of, refusal_number}
 use Rattle.interp.specs.Execute.{next_power_of_two, length_lines, execute_refusals, executed, execution_for, execute_of}
 use Rattle.interp.proofs.run.Powers.{smallest, power_mono}
-
--- a line that is not returned is not met
-unmet : (b : Bool) (number rest : ℕ) → 0 < number → cond b number rest ≡ 0 → (b ≡ false) × (rest ≡ 0)
-unmet true number rest p e = absurd (omega arith)
-unmet false number rest p e = (refl, e)
 
 both : (a b : Bool) → not (a && b) ≡ false → (a ≡ true) × (b ≡ true)
 both true true e = (refl, refl)
@@ -43,9 +39,9 @@ refused_not_0 why = ne_eqb (refusal_number why) 0 (omega (arith, refused_pos why
 rows_unmet : (rows : List ℕ) (rest : List Line) → first_met (row_lines rows ++ rest) ≡ 0
     → (eqb (length rows) 0 ≡ false) × (ltb 6291456 (length rows) ≡ false) × (not (is_expansion rows) ≡ false) × (first_met rest ≡ 0)
 rows_unmet rows rest e =
-    let p₁ = unmet (eqb (length rows) 0) 1 _ (omega arith) e in
-    let p₂ = unmet (ltb 6291456 (length rows)) 2 _ (omega arith) p₁.1 in
-    let p₃ = unmet (not (is_expansion rows)) 3 _ (omega arith) p₂.1 in
+    let p₁ = unmet (eqb (length rows) 0) 1 _ (λ z. omega arith) e in
+    let p₂ = unmet (ltb 6291456 (length rows)) 2 _ (λ z. omega arith) p₁.1 in
+    let p₃ = unmet (not (is_expansion rows)) 3 _ (λ z. omega arith) p₂.1 in
     (p₁.0, p₂.0, p₃.0, p₃.1)
 
 -- rows that meet no line leave it to the other lines
@@ -80,9 +76,9 @@ pub accepted : (rows : List ℕ) (c : Cursor) (request : Request) (room : ℕ)
     → Ready (length rows) (core_of c) (limit_of request) room × Room (Exactly (length_of request)) (limit_of request) room
 accepted rows c request room e =
     let p₃ = rows_accepted rows (call_lines (length rows) c (wants_segment request) (length_of request) room) (sym e) in
-    let p₄ = unmet (not (ltb c.micro_pc.0 (length rows) && ltb c.next_fetch.0 (length rows))) 4 _ (omega arith) p₃.others in
-    let p₅ = unmet (wants_segment request && ltb (2 ^ 62) (c.cycles + length_of request)) 5 _ (omega arith) p₄.1 in
-    let p₆ = unmet (ltb room (17 * length_of request)) 6 _ (omega arith) p₅.1 in
+    let p₄ = unmet (not (ltb c.micro_pc.0 (length rows) && ltb c.next_fetch.0 (length rows))) 4 _ (λ z. omega arith) p₃.others in
+    let p₅ = unmet (wants_segment request && ltb (2 ^ 62) (c.cycles + length_of request)) 5 _ (λ z. omega arith) p₄.1 in
+    let p₆ = unmet (ltb room (17 * length_of request)) 6 _ (λ z. omega arith) p₅.1 in
     let inside = both (ltb c.micro_pc.0 (length rows)) (ltb c.next_fetch.0 (length rows)) p₄.0 in
     let fits : 17 * length_of request ≤ room = ltb-false _ _ p₆.0 in (
       record {
@@ -100,8 +96,8 @@ pub accepted_execution : (rows input : List ℕ) (max room : ℕ) → first_met 
 unfolding start_of
 accepted_execution rows input max room e =
     let p₃ = rows_accepted rows (length_lines max room) e in
-    let p₅ = unmet (ltb (2 ^ 32) max) 5 _ (omega arith) p₃.others in
-    let p₆ = unmet (ltb room (17 * next_power_of_two max)) 6 _ (omega arith) p₅.1 in
+    let p₅ = unmet (ltb (2 ^ 32) max) 5 _ (λ z. omega arith) p₃.others in
+    let p₆ = unmet (ltb room (17 * next_power_of_two max)) 6 _ (λ z. omega arith) p₅.1 in
     let few : max ≤ 2 ^ 32 = ltb-false _ _ p₅.0 in
     let fits : 17 * next_power_of_two max ≤ room = ltb-false _ _ p₆.0 in
     let small : max < 2 ^ 64 = omega (arith, few) in (
