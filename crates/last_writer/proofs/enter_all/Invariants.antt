@@ -1,0 +1,6 @@
+-- `last_writer::enter_all` meets its contract. Assumes nothing.
+use Rattle.last_writer.proofs.Pass.{Going}
+use Rattle.last_writer.proofs.enter_all.Given as goal
+
+abbrev pub invariant-loop-i : goal.invariant-loop-i
+invariant-loop-i l = Going l.from l.records l.initial.held l.held l.i
