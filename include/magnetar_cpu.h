@@ -4,7 +4,9 @@
  * A program of RV64I words is expanded into rows (magnetar_expand). A machine
  * is a cursor: registers, RAM and a few numbers (magnetar_start). Calls run
  * cycles on it and write a record of 17 words for each (magnetar_segment,
- * magnetar_padding). magnetar_execute does all of a run in one call.
+ * magnetar_padding). magnetar_execute does all of a run in one call. An index
+ * says which record of a log was the latest to write each register and RAM word
+ * (magnetar_index_build, magnetar_index_add).
  *
  * Rules for pointers:
  * - A slice is a pointer and a length, counted in elements. All the elements
@@ -22,7 +24,8 @@
  * Rules for answers, but for magnetar_is_expansion, magnetar_same and
  * magnetar_cursor_words, which answer as they say:
  * - MAGNETAR_ACCEPTED, or the number of a refusal. If several refusals are met,
- *   the lowest number is the answer.
+ *   the answer is the one that the call's comment names first. That is the lowest
+ *   number, but in the calls of an index.
  * - A refused call has changed nothing behind any pointer.
  * - An accepted call changes only what its comment names. Words of a buffer
  *   past those are left as they were.
@@ -66,8 +69,20 @@ extern "C" {
  * MAGNETAR_MAX_EXECUTE_CYCLES.
  */
 #define MAGNETAR_TOO_MANY_CYCLES 5
+/*
+ * The same number, of an index: `before` + the records of the log is over
+ * MAGNETAR_MAX_RECORDS.
+ */
+#define MAGNETAR_TOO_MANY_RECORDS 5
 /* A buffer is too short for what goes into it. */
 #define MAGNETAR_SHORT 6
+/* A log is no whole number of records. */
+#define MAGNETAR_PARTIAL 7
+/*
+ * A record has a register of MAGNETAR_REGS or more, or a RAM word of
+ * MAGNETAR_RAM_WORDS or more.
+ */
+#define MAGNETAR_OUT_OF_RANGE 8
 
 /* ---- limits */
 
@@ -78,6 +93,8 @@ extern "C" {
 #define MAGNETAR_MAX_TOTAL_CYCLES ((uint64_t)1 << 62)
 /* Of max_cycles of magnetar_execute: 2^32. */
 #define MAGNETAR_MAX_EXECUTE_CYCLES ((uint64_t)1 << 32)
+/* Of the records that an index counts, `before` and those of the log: 2^62. */
+#define MAGNETAR_MAX_RECORDS ((uint64_t)1 << 62)
 /* The most rows that one program word gives. */
 #define MAGNETAR_ROWS_PER_WORD 6
 
@@ -154,6 +171,13 @@ extern "C" {
 #define MAGNETAR_FLAG_LD_WORD 0x04000000
 /* The cycle that halts, and every padding cycle. */
 #define MAGNETAR_FLAG_HALTED_LATCH 0x08000000
+
+/* ---- the last-writer index: what stands at which place */
+
+/* Register x has place x, RAM word w place MAGNETAR_REGS + w. */
+#define MAGNETAR_INDEX_PLACES 320
+/* What a place holds that no record wrote. Any other number is a position, also 0. */
+#define MAGNETAR_NONE UINT64_MAX
 
 /* ---- functions */
 
@@ -274,6 +298,61 @@ uint64_t magnetar_same(const uint64_t a[MAGNETAR_CURSOR_WORDS],
  */
 MAGNETAR_MUST_USE
 uint64_t magnetar_cursor_words(void);
+
+/* ---- functions of the last-writer index */
+
+/*
+ * The index of a log has for each of 64 registers and 256 RAM words the position,
+ * from 0, of the latest record that wrote it. Every record writes the register in
+ * its word 5; only a store (MAGNETAR_FLAG_IS_STORE) writes RAM, the word in its
+ * word 6. Nothing else of a log is looked at: not whether it is the recorder's.
+ *
+ * Take a list of segment and padding calls from a fresh cursor, each with the same
+ * rows and the cursor that the one before left, and the index of their joined log,
+ * of at most MAGNETAR_MAX_RECORDS records:
+ * - Register x of the last cursor, 1 to 63, is word 3 of the record at its place's
+ *   position, and 0 where the place holds MAGNETAR_NONE.
+ * - A RAM word whose place holds a position is word 9 of the record there. One
+ *   whose place holds MAGNETAR_NONE was never stored to: it is as it was at the
+ *   start, the input's word or 0, which the index does not tell.
+ * - The place of register 0 says nothing of it: the stages of a register shift
+ *   write it, and no record says so.
+ * Of a log that begins at another cursor the 0 above does not hold: the register is
+ * what it was there.
+ */
+
+/*
+ * Writes the index of a log, all MAGNETAR_INDEX_PLACES places, whatever they held.
+ * The index of no records, to which others can be added, is that of an empty log.
+ *
+ * Refused, in this order: 7 if log_len is no multiple of MAGNETAR_RECORD_WORDS; 8
+ * if any record, be it a store or not, has MAGNETAR_REGS or more in word 5, or
+ * MAGNETAR_RAM_WORDS or more in word 6; 6 if index_len is below
+ * MAGNETAR_INDEX_PLACES. No log in memory has enough records for 5.
+ *
+ * Written: the index, index[0] to index[MAGNETAR_INDEX_PLACES - 1].
+ */
+MAGNETAR_MUST_USE
+uint64_t magnetar_index_build(const uint64_t *log, size_t log_len,
+                              uint64_t *index, size_t index_len);
+
+/*
+ * Adds a log to the index of the `before` records before it, which becomes that of
+ * the joined log. A place that the log writes gets `before` plus the position in
+ * the log; any other keeps what it holds, whatever that is. So `before` must be
+ * how many records the index is of, which it does not hold itself, and memory of
+ * zeros is no index: begin with magnetar_index_build.
+ *
+ * Refused, in this order: 7 and 8 as magnetar_index_build does; 5 if `before` + the
+ * records of the log is over MAGNETAR_MAX_RECORDS; 6 if index_len is below
+ * MAGNETAR_INDEX_PLACES.
+ *
+ * Written: the index, index[0] to index[MAGNETAR_INDEX_PLACES - 1]. It is read too,
+ * and like all that is written it overlaps nothing else lent: not the log.
+ */
+MAGNETAR_MUST_USE
+uint64_t magnetar_index_add(const uint64_t *log, size_t log_len, uint64_t before,
+                            uint64_t *index, size_t index_len);
 
 #ifdef __cplusplus
 }

@@ -1,4 +1,4 @@
-/* The header's names: flags, the words that the rule leaves 0, and the words of a cursor. */
+/* The header's names: flags, the words that the rule leaves 0, the words of a cursor, and the places of an index. */
 #include "cases.h"
 #include "rule.h"
 
@@ -41,4 +41,5 @@ void name_cases(void)
     check("answer", magnetar_cursor_words(), MAGNETAR_CURSOR_WORDS);
     check("the registers' end", MAGNETAR_CURSOR_REGS + MAGNETAR_REGS, MAGNETAR_CURSOR_RAM);
     check("RAM's end", MAGNETAR_CURSOR_RAM + MAGNETAR_RAM_WORDS, MAGNETAR_CURSOR_MICRO_PC);
+    check("an index's end", MAGNETAR_REGS + MAGNETAR_RAM_WORDS, MAGNETAR_INDEX_PLACES);
 }

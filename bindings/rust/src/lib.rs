@@ -54,6 +54,10 @@
 //! # Ok::<(), magnetar_cpu::Refusal>(())
 //! ```
 //!
+//! Of the records that were written, a [`LastWriterIndex`] says for each register and
+//! RAM word which was the latest to write it; calls with an index have refusals of
+//! their own, [`IndexRefusal`].
+//!
 //! Library and crate must be of one version: with a library whose cursor has
 //! another length ([`cursor_words`]) the functions that take or give a cursor
 //! panic. The same length does not mean the same answers: a library before 0.2.0
@@ -81,6 +85,7 @@ mod cursor;
 #[cfg(feature = "alloc")]
 mod expansion;
 mod flags;
+mod index;
 mod record;
 mod refusal;
 mod stop;
@@ -95,6 +100,9 @@ pub use cursor::{Cursor, Image};
 #[cfg(feature = "alloc")]
 pub use expansion::Expansion;
 pub use flags::Flags;
+pub use index::{
+    add_to_index, build_index, IndexRefusal, LastWriterIndex, INDEX_PLACES, MAX_RECORDS, NONE,
+};
 pub use record::{records, Record, Records, RECORD_WORDS};
 pub use refusal::{NotARefusal, Refusal};
 pub use stop::Stop;

@@ -6,34 +6,60 @@ use crate::{MAX_EXECUTE_CYCLES, MAX_PROGRAM_WORDS, MAX_ROWS, MAX_TOTAL_CYCLES};
 use core::error::Error;
 use core::fmt;
 
-/// The refusals: each one's name, number and text.
+/// A kind of refusals, in the order in which the library tests them: each one's
+/// name, number and text.
 macro_rules! refusals {
-    ($($(#[$doc:meta])* $name:ident = $number:literal, $text:literal;)*) => {
-        /// Why a call was refused, by the names of the C header. Nothing that was
-        /// lent to it has changed then. If there are several reasons, it is the one
-        /// of the lowest number.
+    (
+        $(#[$kind_doc:meta])*
+        $kind:ident: $($(#[$doc:meta])* $name:ident = $number:literal, $text:literal;)*
+    ) => {
+        $(#[$kind_doc])*
         #[derive(Clone, Copy, Debug, PartialEq, Eq, Hash)]
         #[non_exhaustive]
-        pub enum Refusal {
+        pub enum $kind {
             $($(#[$doc])* $name = $number,)*
         }
 
-        impl Refusal {
-            /// All refusals, lowest number first.
-            pub const ALL: &'static [Refusal] = &[$(Refusal::$name),*];
+        impl $kind {
+            /// All of them, in the order in which they are tested.
+            pub const ALL: &'static [Self] = &[$(Self::$name),*];
+
+            /// The library's number for it, from 1 on.
+            pub fn number(self) -> u64 {
+                self as u64
+            }
         }
 
-        impl fmt::Display for Refusal {
-            fn fmt(&self, f: &mut fmt::Formatter) -> fmt::Result {
+        impl core::fmt::Display for $kind {
+            fn fmt(&self, f: &mut core::fmt::Formatter) -> core::fmt::Result {
                 match self {
-                    $(Refusal::$name => write!(f, $text),)*
+                    $(Self::$name => write!(f, $text),)*
                 }
+            }
+        }
+
+        impl core::error::Error for $kind {}
+
+        /// The refusal of that number, as the functions of
+        /// [`words`](crate::words) answer it.
+        impl TryFrom<u64> for $kind {
+            type Error = $crate::NotARefusal;
+
+            fn try_from(number: u64) -> Result<Self, $crate::NotARefusal> {
+                let mut all = Self::ALL.iter().copied();
+                let refusal = all.find(|refusal| refusal.number() == number);
+                refusal.ok_or($crate::NotARefusal(number))
             }
         }
     };
 }
+pub(crate) use refusals;
 
 refusals! {
+    /// Why a call was refused, by the names of the C header. Nothing that was lent to
+    /// it has changed then. If there are several reasons, it is the one of the lowest
+    /// number.
+    Refusal:
     /// The program has no words, or there are no rows.
     NoRows = 1, "there are no program words, or no rows";
     /// The program has over [`MAX_PROGRAM_WORDS`] words, or there are over
@@ -78,36 +104,19 @@ impl Refusal {
         Self::TooManyCycles,
         Self::Short,
     ];
-
-    /// The library's number for it, from 1 on.
-    pub fn number(self) -> u64 {
-        self as u64
-    }
 }
 
-impl Error for Refusal {}
-
-/// The refusal of that number, as the functions of [`words`](crate::words) answer
-/// it.
+/// A number that is no refusal's of that kind: 0, which is acceptance, or another
+/// that none of them has.
 ///
 /// ```
-/// use magnetar_cpu::{NotARefusal, Refusal};
+/// use magnetar_cpu::{IndexRefusal, NotARefusal, Refusal};
 ///
 /// assert_eq!(Refusal::try_from(6), Ok(Refusal::Short));
 /// assert_eq!(Refusal::try_from(0), Err(NotARefusal(0)));
+/// assert_eq!(IndexRefusal::try_from(6), Ok(IndexRefusal::Short));
+/// assert_eq!(Refusal::try_from(7), Err(NotARefusal(7)));
 /// ```
-impl TryFrom<u64> for Refusal {
-    type Error = NotARefusal;
-
-    fn try_from(number: u64) -> Result<Self, NotARefusal> {
-        let mut all = Refusal::ALL.iter().copied();
-        let refusal = all.find(|refusal| refusal.number() == number);
-        refusal.ok_or(NotARefusal(number))
-    }
-}
-
-/// A number that is no refusal's: 0, which is acceptance, or one that this
-/// version does not have.
 #[derive(Clone, Copy, Debug, PartialEq, Eq, Hash)]
 pub struct NotARefusal(
     /// The number.
@@ -123,11 +132,14 @@ impl fmt::Display for NotARefusal {
 impl Error for NotARefusal {}
 
 /// An answer as a result. It must be 0 or the number of one of the refusals.
-pub(crate) fn result(call: &str, answer: u64, refusals: &[Refusal]) -> Result<(), Refusal> {
+pub(crate) fn result<R>(call: &str, answer: u64, refusals: &[R]) -> Result<(), R>
+where
+    R: Copy + PartialEq + TryFrom<u64>,
+{
     if answer == 0 {
         return Ok(());
     }
-    match Refusal::try_from(answer) {
+    match R::try_from(answer) {
         Ok(refusal) if refusals.contains(&refusal) => Err(refusal),
         _ => panic!("{call} answered {answer}"),
     }

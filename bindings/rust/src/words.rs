@@ -1,8 +1,9 @@
 //! The library's own form: what is lent are words, and the answer is a number.
 //!
 //! 0 is accepted; any other answer is the number of a [`Refusal`](crate::Refusal),
-//! and then no word has changed. The functions of the crate's root are made of
-//! these and are easier to use.
+//! of an index that of an [`IndexRefusal`](crate::IndexRefusal), and then no word
+//! has changed. The functions of the crate's root are made of these and are easier
+//! to use.
 //!
 //! All `unsafe` code of the crate is here. What the library asks of its caller
 //! is what Rust asks of slices and arrays: pointers that are not null and
@@ -55,6 +56,19 @@ unsafe extern "C" {
         record_count: *mut u64,
     ) -> u64;
     fn magnetar_same(a: Shown, b: Shown) -> u64;
+    fn magnetar_index_build(
+        log: *const u64,
+        log_len: usize,
+        index: *mut u64,
+        index_len: usize,
+    ) -> u64;
+    fn magnetar_index_add(
+        log: *const u64,
+        log_len: usize,
+        before: u64,
+        index: *mut u64,
+        index_len: usize,
+    ) -> u64;
     safe fn magnetar_cursor_words() -> u64;
 }
 
@@ -197,6 +211,27 @@ pub fn same(a: &Image, b: &Image) -> u64 {
     // SAFETY: both images have the words of a cursor (`Shown`), and they are only
     // read.
     unsafe { magnetar_same(Shown::new(a), Shown::new(b)) }
+}
+
+/// [`build_index`](crate::build_index).
+pub fn index_build(log: &[u64], index: &mut [u64]) -> u64 {
+    // SAFETY: pointers and lengths are those of slices, both borrowed until the
+    // call returns, the one written to by nothing else.
+    unsafe { magnetar_index_build(log.as_ptr(), log.len(), index.as_mut_ptr(), index.len()) }
+}
+
+/// [`add_to_index`](crate::add_to_index).
+pub fn index_add(log: &[u64], before: u64, index: &mut [u64]) -> u64 {
+    // SAFETY: as for `index_build`.
+    unsafe {
+        magnetar_index_add(
+            log.as_ptr(),
+            log.len(),
+            before,
+            index.as_mut_ptr(),
+            index.len(),
+        )
+    }
 }
 
 /// The words that the library takes a cursor's image to have. This can be called

@@ -73,3 +73,17 @@ uint64_t magnetar_is_expansion(const uint64_t *rows, size_t rows_len)
     (void)rows, (void)rows_len;
     return 0;
 }
+
+uint64_t magnetar_index_build(const uint64_t *log, size_t log_len,
+                              uint64_t *index, size_t index_len)
+{
+    (void)log, (void)log_len, (void)index, (void)index_len;
+    return MAGNETAR_SHORT;
+}
+
+uint64_t magnetar_index_add(const uint64_t *log, size_t log_len, uint64_t before,
+                            uint64_t *index, size_t index_len)
+{
+    (void)before;
+    return magnetar_index_build(log, log_len, index, index_len);
+}

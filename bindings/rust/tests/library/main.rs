@@ -6,6 +6,7 @@
 mod executing;
 mod expanding;
 mod guarded;
+mod indexing;
 mod names;
 mod running;
 mod same;

@@ -1,9 +1,9 @@
 //! Refusals, limits, places and flags have the names and numbers of the C header.
 
-use magnetar_cpu::{Cursor, Record, Refusal, RECORD_WORDS};
-use magnetar_cpu::{
-    MAX_EXECUTE_CYCLES, MAX_PROGRAM_WORDS, MAX_ROWS, MAX_TOTAL_CYCLES, ROWS_PER_WORD,
-};
+use magnetar_cpu::{Cursor, IndexRefusal, Record, Refusal, RECORD_WORDS};
+use magnetar_cpu::{INDEX_PLACES, MAX_EXECUTE_CYCLES, MAX_PROGRAM_WORDS, MAX_RECORDS, MAX_ROWS};
+use magnetar_cpu::{MAX_TOTAL_CYCLES, NONE, ROWS_PER_WORD};
+use std::fmt::Debug;
 
 const HEADER: &str = include_str!("../../../../include/magnetar_cpu.h");
 
@@ -25,11 +25,18 @@ fn in_capitals(name: &str) -> String {
     capitals
 }
 
+#[track_caller]
+fn assert_refusal(refusal: impl Debug, number: u64) {
+    assert_defined(&in_capitals(&format!("{refusal:?}")), &number.to_string());
+}
+
 #[test]
 fn refusals_have_the_names_of_the_header() {
     for refusal in Refusal::ALL {
-        let name = in_capitals(&format!("{refusal:?}"));
-        assert_defined(&name, &refusal.number().to_string());
+        assert_refusal(refusal, refusal.number());
+    }
+    for refusal in IndexRefusal::ALL {
+        assert_refusal(refusal, refusal.number());
     }
 }
 
@@ -41,6 +48,7 @@ fn limits_have_the_names_of_the_header() {
     for (name, limit) in [
         ("MAX_TOTAL_CYCLES", MAX_TOTAL_CYCLES),
         ("MAX_EXECUTE_CYCLES", MAX_EXECUTE_CYCLES),
+        ("MAX_RECORDS", MAX_RECORDS),
     ] {
         assert!(limit.is_power_of_two());
         assert_defined(name, &format!("((uint64_t)1 << {})", limit.ilog2()));
@@ -68,6 +76,10 @@ fn places_have_the_names_of_the_header() {
     assert_defined("REGS", &Cursor::REGS.len().to_string());
     assert_defined("RAM_WORDS", &Cursor::RAM.len().to_string());
     assert_defined("RECORD_WORDS", &RECORD_WORDS.to_string());
+    assert_defined("INDEX_PLACES", &INDEX_PLACES.to_string());
+    assert_eq!(INDEX_PLACES, Cursor::REGS.len() + Cursor::RAM.len());
+    assert_defined("NONE", "UINT64_MAX");
+    assert_eq!(NONE, u64::MAX);
 }
 
 #[test]
