@@ -2,14 +2,13 @@
 // their cells, and words about what was compared.
 #![tactic(auto)]
 
-ghost use Rattle.std.specs.Prelude.{◌≡◌, ◌+◌, ◌^◌, ◌≤◌, cond, take, set, ltb, []};
+ghost use Rattle.std.specs.Prelude.{◌≡◌, MatchResult, ◌+◌, ◌^◌, ◌≤◌, cond, take, set, ltb, []};
 ghost use Rattle.interp.specs.Machine.{start_of};
-ghost use Rattle.interp.specs.Calls.{outcome_number};
 ghost use Rattle.edges.specs.Compare.{differ_place};
 ghost use Rattle.edges.specs.Cursors.{numbers_of, cells_of, up_from, marked_regs, marked_ram, marked_cursor, at_rows, with_cycles, with_reg, with_ram, with_cell, halted_with};
 
 use expand::MicroPc;
-use interp::{Cursor, RECORD_WORDS, Refusal};
+use interp::{Cursor, RECORD_WORDS};
 use report::Console;
 
 // What a place of a record buffer holds before a call.
@@ -55,13 +54,13 @@ pub const STAGES: [u64; 6] = [
 
 // ---- comparing
 
-// The number that a call returns: 0 is accepted.
-pub fn number_of<T: Copy>(outcome: Result<T, Refusal>) -> u64
-    ensures { result ≡ outcome_number outcome }
+// The number that a call returns: 0 is accepted, a refusal has its own.
+pub fn number_of<T: Copy, E: Into<u64>>(outcome: Result<T, E>) -> u64
+    ensures { MatchResult outcome (λ _. result ≡ 0) (λ why. E.converts why result) }
 {
     match outcome {
         Ok(_) => 0,
-        Err(why) => u64::from(why),
+        Err(why) => why.into(),
     }
 }
 
@@ -95,6 +94,13 @@ pub fn say_differs(to: Console, what: &str, want: &[u64], rest: u64, found: &[u6
         to.say(format_args!(", WRONG {what} {at}"));
     }
     wrong.is_none()
+}
+
+// Says whether `found` is `want` and then `rest`: that it is right, or the first place that is not.
+pub fn say_list(to: Console, what: &str, want: &[u64], rest: u64, found: &[u64]) {
+    if say_differs(to, what, want, rest, found) {
+        to.say(format_args!(", {what} right"));
+    }
 }
 
 // The first `count` places; all of them, where there are no more.
@@ -138,7 +144,7 @@ pub fn fresh() -> Cursor
 
 // N numbers from `first` on.
 #[tactic(auto, using(crate::proofs::Lists::next_number, crate::proofs::Lists::all_numbers))]
-fn up_from<const N: usize>(first: u64) -> [u64; N]
+pub fn up_from<const N: usize>(first: u64) -> [u64; N]
     requires { first + N ≤ 2 ^ 64 }
     ensures { result ≡ up_from N first }
 {
@@ -196,7 +202,7 @@ pub fn with_cycles(cursor: Cursor, cycles: u64) -> Cursor
 }
 
 // There is no cell past the last, and nothing to set.
-fn with<const N: usize>(mut cells: [u64; N], i: usize, value: u64) -> [u64; N]
+pub fn with<const N: usize>(mut cells: [u64; N], i: usize, value: u64) -> [u64; N]
     ensures { result ≡ cond (ltb i N) (set cells.entry i value) cells.entry }
 {
     if i < N {

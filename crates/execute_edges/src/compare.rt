@@ -1,6 +1,6 @@
 // Runs execute and compares all that it returns and writes. Each place of a record buffer holds a
 // guard word before a call; afterwards all places, the counts and the whole cursor are compared.
-use edges::{GUARD, NUMBER_NAMES, PLACES, Record, fresh, number_of, numbers_of, say_differs};
+use edges::{GUARD, NUMBER_NAMES, PLACES, Record, fresh, number_of, numbers_of, say_list};
 use interp::{Execution, Refusal};
 use report::Console;
 
@@ -20,12 +20,6 @@ fn nothing() -> Execution {
 fn say_number(to: Console, what: &str, want: u64, found: u64) {
     let wrong = if want == found { "" } else { "WRONG " };
     to.say(format_args!(", {wrong}{what} {found}"));
-}
-
-fn say_list(to: Console, what: &str, want: &[u64], rest: u64, found: &[u64]) {
-    if say_differs(to, what, want, rest, found) {
-        to.say(format_args!(", {what} right"));
-    }
 }
 
 fn say_execution(to: Console, want: Execution, found: Execution) {
