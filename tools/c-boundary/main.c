@@ -16,7 +16,7 @@
 #include <string.h>
 
 /* The checks when this was written; fewer mean that cases were lost. Those of 2^32 cycles are not always run. */
-#define SMALL_CHECKS 22941
+#define SMALL_CHECKS 23395
 #define LIMIT_CHECKS 54
 
 int main(int argc, char **argv)
@@ -32,6 +32,7 @@ int main(int argc, char **argv)
         call_cases(placement);
         execute_cases(placement);
         same_cases(placement);
+        index_cases(placement);
     }
     name_cases();
     if (!is_small)

@@ -14,5 +14,7 @@ void drop(const uint32_t *program, uint64_t *words, uint64_t *cursor)
     magnetar_padding(words, 0, cursor, 0, words, 0);
     magnetar_execute(words, 0, words, 0, 0, words, 0, cursor, words, words);
     magnetar_same(cursor, cursor);
+    magnetar_index_build(words, 0, words, 0);
+    magnetar_index_add(words, 0, 0, words, 0);
     magnetar_cursor_words();
 }

@@ -37,6 +37,8 @@ uint64_t __real_magnetar_execute(const uint64_t *, size_t, const uint64_t *, siz
                                  uint64_t *, uint64_t *, uint64_t *);
 uint64_t __real_magnetar_same(const uint64_t *, const uint64_t *);
 uint64_t __real_magnetar_cursor_words(void);
+uint64_t __real_magnetar_index_build(const uint64_t *, size_t, uint64_t *, size_t);
+uint64_t __real_magnetar_index_add(const uint64_t *, size_t, uint64_t, uint64_t *, size_t);
 
 uint64_t __wrap_magnetar_expand(const uint32_t *program, size_t program_len, uint64_t *rows, size_t rows_len,
                                 uint64_t *starts, size_t starts_len, uint64_t *count)
@@ -158,4 +160,25 @@ uint64_t __wrap_magnetar_same(const uint64_t *a, const uint64_t *b)
 uint64_t __wrap_magnetar_cursor_words(void)
 {
     return other("cursor_words is 324", __real_magnetar_cursor_words(), 324, 1);
+}
+
+uint64_t __wrap_magnetar_index_build(const uint64_t *log, size_t log_len, uint64_t *index, size_t index_len)
+{
+    if (is_fault("index_build reads past the log") && log_len > 0)
+        seen = log[log_len];
+    uint64_t answer = __real_magnetar_index_build(log, log_len, index, index_len);
+    change("index_build writes on refusal", index, answer != 0 && index_len > 0);
+    change("index_build writes past its places", index + MAGNETAR_INDEX_PLACES, answer == 0);
+    return other("index_build has 6 before 8", answer, 6, answer == 8 && index_len < MAGNETAR_INDEX_PLACES);
+}
+
+uint64_t __wrap_magnetar_index_add(const uint64_t *log, size_t log_len, uint64_t before, uint64_t *index,
+                                   size_t index_len)
+{
+    uint64_t answer = __real_magnetar_index_add(log, log_len, before, index, index_len);
+    uint64_t sum = before + log_len / MAGNETAR_RECORD_WORDS;
+    change("index_add writes before the index", index - 1, answer == 0);
+    change("index_add writes a place that no record does", index + 2, answer == 0);
+    answer = other("index_add has 5 before 8", answer, 5, answer == 8 && before > MAGNETAR_MAX_RECORDS);
+    return other("index_add's sum wraps", answer, 0, answer == 5 && sum <= MAGNETAR_MAX_RECORDS);
 }

@@ -4,6 +4,7 @@
 mod comparing;
 mod executing;
 mod expanding;
+mod indexing;
 mod judging;
 mod running;
 mod starting;
@@ -12,6 +13,7 @@ use crate::Call;
 pub use comparing::Comparing;
 pub use executing::Executing;
 pub use expanding::Expanding;
+pub use indexing::Indexing;
 pub use judging::Judging;
 pub use running::{image_mut, Running};
 pub use starting::Starting;
@@ -26,10 +28,12 @@ pub enum Function {
     Padding,
     Execute,
     Same,
+    IndexBuild,
+    IndexAdd,
 }
 
 impl Function {
-    pub const ALL: [Self; 7] = [
+    pub const ALL: [Self; 9] = [
         Self::Expand,
         Self::IsExpansion,
         Self::Start,
@@ -37,6 +41,8 @@ impl Function {
         Self::Padding,
         Self::Execute,
         Self::Same,
+        Self::IndexBuild,
+        Self::IndexAdd,
     ];
 
     pub fn name(self) -> &'static str {
@@ -48,6 +54,8 @@ impl Function {
             Function::Padding => "padding",
             Function::Execute => "execute",
             Function::Same => "same",
+            Function::IndexBuild => "index_build",
+            Function::IndexAdd => "index_add",
         }
     }
 
@@ -61,6 +69,9 @@ impl Function {
             Function::Segment => &[0, 1, 2, 3, 4, 5, 6],
             Function::Padding => &[0, 1, 2, 3, 4, 6],
             Function::Execute => &[0, 1, 2, 3, 5, 6],
+            // No log in memory has over 2^62 records.
+            Function::IndexBuild => &[0, 6, 7, 8],
+            Function::IndexAdd => &[0, 5, 6, 7, 8],
         }
     }
 }
@@ -124,6 +135,7 @@ pub enum Lending<'a> {
     Run(Running<'a>),
     Execute(Executing<'a>),
     Same(Comparing),
+    Index(Indexing),
 }
 
 impl Lending<'_> {
@@ -138,6 +150,10 @@ impl Lending<'_> {
             },
             Lending::Execute(_) => Function::Execute,
             Lending::Same(_) => Function::Same,
+            Lending::Index(indexing) => match indexing.earlier {
+                None => Function::IndexBuild,
+                Some(_) => Function::IndexAdd,
+            },
         }
     }
 }
@@ -151,6 +167,7 @@ impl Lend for Lending<'_> {
             Lending::Run(lent) => lent.library(),
             Lending::Execute(lent) => lent.library(),
             Lending::Same(lent) => lent.library(),
+            Lending::Index(lent) => lent.library(),
         }
     }
 
@@ -162,6 +179,7 @@ impl Lend for Lending<'_> {
             Lending::Run(lent) => lent.model(),
             Lending::Execute(lent) => lent.model(),
             Lending::Same(lent) => lent.model(),
+            Lending::Index(lent) => lent.model(),
         }
     }
 
@@ -173,6 +191,7 @@ impl Lend for Lending<'_> {
             (Lending::Run(found), Lending::Run(wanted)) => found.compare(wanted),
             (Lending::Execute(found), Lending::Execute(wanted)) => found.compare(wanted),
             (Lending::Same(found), Lending::Same(wanted)) => found.compare(wanted),
+            (Lending::Index(found), Lending::Index(wanted)) => found.compare(wanted),
             _ => panic!("calls of two kinds"),
         }
     }
@@ -185,6 +204,7 @@ impl Lend for Lending<'_> {
             Lending::Run(lent) => lent.about(),
             Lending::Execute(lent) => lent.about(),
             Lending::Same(lent) => lent.about(),
+            Lending::Index(lent) => lent.about(),
         }
     }
 }

@@ -1,13 +1,15 @@
-//! The static library beside a model of it: the reference and the table of
+//! The static library beside a model of it: the reference and the tables of
 //! refusals. Calls with all that is lent to them, random rounds of such calls,
 //! and wrong variants that the rounds must tell from the model.
 
 #![forbid(unsafe_code)]
 
 mod damage;
+mod index;
 mod lending;
 mod lent;
 mod limits;
+mod logs;
 mod machine;
 mod programs;
 mod random;
@@ -15,7 +17,7 @@ mod report;
 mod rounds;
 mod wrong;
 
-pub use lending::{check, Comparing, Executing, Expanding, Judging, Running, Starting};
+pub use lending::{check, Comparing, Executing, Expanding, Indexing, Judging, Running, Starting};
 pub use lending::{Function, Lend, Lending, Modelled};
 pub use lent::{Lent, GUARDS};
 pub use machine::{image_of, Call, Rom};

@@ -64,7 +64,7 @@ fn run_wrong(seed: u64, rounds: u64) -> Result<(), String> {
             Some(round) => format!("round {round}"),
             None => "not noticed".to_string(),
         };
-        println!("{:<18}{:<45}{round}", noticed.functions(), noticed.name);
+        println!("{:<24}{:<45}{round}", noticed.functions(), noticed.name);
     }
     let missed = all.iter().filter(|noticed| noticed.first.is_none()).count();
     let variants = all.len();

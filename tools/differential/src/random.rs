@@ -50,7 +50,7 @@ pub fn input(rng: &mut Rng) -> Vec<u64> {
 }
 
 /// A random word, or one that comparisons and addresses are likely to turn on.
-fn word(rng: &mut Rng) -> u64 {
+pub fn word(rng: &mut Rng) -> u64 {
     match rng.below(6) {
         0 => 0,
         1 => rng.below(9) as u64,

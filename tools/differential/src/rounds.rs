@@ -3,9 +3,9 @@
 
 use crate::limits::run_limits;
 use crate::programs::{any_word, program};
-use crate::{random, Call, Expansion, Lending, Modelled, Rng, Rom};
-use crate::{Comparing, Executing, Expanding, Judging, Running, Starting};
-use magnetar_cpu::Image;
+use crate::{logs, random, Call, Expansion, Lending, Modelled, Rng, Rom};
+use crate::{Comparing, Executing, Expanding, Indexing, Judging, Running, Starting};
+use magnetar_cpu::{Image, INDEX_PLACES, RECORD_WORDS};
 
 /// What is handed every call of a round.
 pub type Tell<'a> = &'a mut dyn FnMut(&Modelled<Lending>);
@@ -30,23 +30,31 @@ pub fn run_round(seed: u64, number: u64, tell: Tell) {
     }
     let rom = random::rom(&mut rng);
     let image = random::image(rom.rows.len(), &mut rng);
-    let mut round = Round { rng, rom, image };
+    let log = Vec::new();
+    let mut round = Round {
+        rng,
+        rom,
+        image,
+        log,
+    };
     for _ in 0..1 + round.rng.below(MOST_CALLS) {
         round.call(tell);
     }
 }
 
-/// What the calls of a round share: the ROM, and the cursor that they hand on.
+/// What the calls of a round share: the ROM, the cursor that they hand on, and the
+/// log of the last segment or padding call that was accepted.
 struct Round {
     rng: Rng,
     rom: Rom,
     image: Image,
+    log: Vec<u64>,
 }
 
 impl Round {
     fn call(&mut self, tell: Tell) {
         let rng = &mut self.rng;
-        let kind = rng.below(16);
+        let kind = rng.below(18);
         // Some calls get other rows than the rest of the round.
         let damaged = (rng.below(12) == 0).then(|| random::damaged(&self.rom.rows, rng));
         let damaged = damaged.map(Rom::new);
@@ -55,9 +63,10 @@ impl Round {
             0..3 => expand(rng, tell),
             3..5 => judge(rng, tell),
             5 => self.image = start(rng, tell),
-            6..11 => self.image = run(rom, &self.image, rng, tell),
+            6..11 => self.image = run(rom, &self.image, &mut self.log, rng, tell),
             11..14 => execute(rom, rng, tell),
-            _ => compare(&self.image, rng, tell),
+            14..16 => compare(&self.image, rng, tell),
+            _ => index(&self.log, rng, tell),
         }
     }
 }
@@ -96,8 +105,8 @@ fn start(rng: &mut Rng, tell: Tell) -> Image {
     after.image()
 }
 
-/// Gives the cursor that the model leaves.
-fn run(rom: &Rom, image: &Image, rng: &mut Rng, tell: Tell) -> Image {
+/// Gives the cursor that the model leaves, and of an accepted call the log.
+fn run(rom: &Rom, image: &Image, log: &mut Vec<u64>, rng: &mut Rng, tell: Tell) -> Image {
     let call = [Call::Segment, Call::Segment, Call::Padding][rng.below(3)];
     let length = random::length(image, rng);
     let room = random::room(length, rng);
@@ -107,6 +116,9 @@ fn run(rom: &Rom, image: &Image, rng: &mut Rng, tell: Tell) -> Image {
     let Lending::Run(after) = modelled.after else {
         unreachable!("a call stays of its kind");
     };
+    if modelled.answer == 0 {
+        *log = after.records.words()[..RECORD_WORDS * length as usize].to_vec();
+    }
     after.image()
 }
 
@@ -129,9 +141,21 @@ fn compare(image: &Image, rng: &mut Rng, tell: Tell) {
     tell(&Modelled::new(Lending::Same(Comparing::new(&a, &b, rng))));
 }
 
+/// An index that held anything, built or added to.
+fn index(log: &[u64], rng: &mut Rng, tell: Tell) {
+    let log = logs::log(log, rng);
+    let earlier = logs::earlier(log.len() / RECORD_WORDS, rng);
+    let earlier = (rng.below(3) > 0).then_some(earlier);
+    let places = random::length_around(INDEX_PLACES, rng);
+    let index: Vec<u64> = (0..places).map(|_| random::word(rng)).collect();
+    let indexing = Indexing::new(earlier, &log, &index, rng);
+    tell(&Modelled::new(Lending::Index(indexing)));
+}
+
 #[cfg(test)]
 mod tests {
     use super::*;
+    use crate::report::ANSWERS;
     use crate::{Function, Lend};
 
     /// Function, answer, text and some of the lent words of every call.
@@ -153,6 +177,7 @@ mod tests {
             Lending::Run(lent) => lent.records.all.clone(),
             Lending::Execute(lent) => lent.records.all.clone(),
             Lending::Same(lent) => lent.b.all.clone(),
+            Lending::Index(lent) => lent.index.all.clone(),
         }
     }
 
@@ -167,14 +192,14 @@ mod tests {
     /// But for refusal 2, which is for the limits.
     #[test]
     fn every_answer_comes_up() {
-        let mut met = [[false; 7]; 7];
+        let mut met = [[false; ANSWERS]; Function::ALL.len()];
         for number in 1..=1000 {
             run_round(1, number, &mut |made| {
                 met[made.before.function() as usize][made.answer as usize] = true;
             });
         }
         for function in Function::ALL {
-            for answer in 0..7 {
+            for answer in 0..ANSWERS as u64 {
                 let wanted = answer != 2 && function.answers().contains(&answer);
                 let found = met[function as usize][answer as usize];
                 assert_eq!(found, wanted, "{} answers {answer}", function.name());

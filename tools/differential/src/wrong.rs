@@ -5,13 +5,14 @@ mod calls;
 mod cycles;
 mod executions;
 mod expansions;
+mod indexes;
 mod judges;
 mod limits;
 mod sames;
 mod starts;
 
 use crate::rounds::run_round;
-use crate::{Comparing, Executing, Expanding, Judging, Running, Starting};
+use crate::{Comparing, Executing, Expanding, Indexing, Judging, Running, Starting};
 use crate::{Function, Lending, Modelled, LIMITS};
 use cycles::Cycle;
 
@@ -26,6 +27,7 @@ type OfRun = fn(&Running, &mut Running, &mut u64);
 type OfCycle = fn(&mut Cycle);
 type OfExecute = fn(&Executing, &mut Executing, &mut u64);
 type OfSame = fn(&Comparing, &mut Comparing, &mut u64);
+type OfIndex = fn(&Indexing, &mut Indexing, &mut u64);
 
 #[derive(Clone, Copy)]
 enum Change {
@@ -36,6 +38,7 @@ enum Change {
     Cycle(OfCycle),
     Execute(OfExecute),
     Same(OfSame),
+    Index(OfIndex),
 }
 
 impl Change {
@@ -47,6 +50,7 @@ impl Change {
             Change::Run(_) | Change::Cycle(_) => &[Function::Segment, Function::Padding],
             Change::Execute(_) => &[Function::Execute],
             Change::Same(_) => &[Function::Same],
+            Change::Index(_) => &[Function::IndexBuild, Function::IndexAdd],
         }
     }
 
@@ -74,6 +78,9 @@ impl Change {
                 change(before, after, answer);
             }
             (Change::Same(change), Lending::Same(before), Lending::Same(after)) => {
+                change(before, after, answer);
+            }
+            (Change::Index(change), Lending::Index(before), Lending::Index(after)) => {
                 change(before, after, answer);
             }
             _ => (),
@@ -137,6 +144,7 @@ fn variants() -> Vec<Noticed> {
     all.extend(cycles::WRONG.map(|variant| Noticed::new(variant, Change::Cycle)));
     all.extend(executions::WRONG.map(|variant| Noticed::new(variant, Change::Execute)));
     all.extend(sames::WRONG.map(|variant| Noticed::new(variant, Change::Same)));
+    all.extend(indexes::WRONG.map(|variant| Noticed::new(variant, Change::Index)));
     all
 }
 
@@ -191,6 +199,7 @@ mod tests {
             Change::Cycle(|_| ()),
             Change::Execute(|_, _, _| ()),
             Change::Same(|_, _, _| ()),
+            Change::Index(|_, _, _| ()),
         ];
         let mut all = right.map(|change| Noticed::new(("right", change), |change| change));
         for number in 1..=500 {

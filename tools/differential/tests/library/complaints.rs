@@ -1,7 +1,7 @@
 //! A comparison says where a call is wrong: of every part that is lent, in the
 //! words and in the guards.
 
-use differential::{check, Comparing, Executing, Expanding, Judging, Running, Starting};
+use differential::{check, Comparing, Executing, Expanding, Indexing, Judging, Running, Starting};
 use differential::{Call, Expansion, Lend, Lent, Rng, Rom, ADDI, ECALL, GUARDS, SLL};
 use magnetar_cpu::Cursor;
 
@@ -116,4 +116,19 @@ fn of_a_comparison() {
         ("second cursor", |lent| &mut lent.b),
     ];
     check_parts(&Comparing::new(&BLANK, &BLANK, &mut Rng::new(2)), &parts);
+}
+
+/// With places past the index, and with one too few.
+#[test]
+fn of_an_index() {
+    let parts: [Part<Indexing>; 2] = [
+        ("log", |lent| &mut lent.log),
+        ("index", |lent| &mut lent.index),
+    ];
+    for earlier in [None, Some(7)] {
+        for index in [&[3; 330][..], &[3; 319]] {
+            let indexing = Indexing::new(earlier, &[1; 34], index, &mut Rng::new(2));
+            check_parts(&indexing, &parts);
+        }
+    }
 }

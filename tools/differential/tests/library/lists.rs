@@ -1,7 +1,8 @@
-//! Lists of segment calls against one long call, and against an execution.
+//! Lists of segment calls against one long call, an execution and an index.
 
 use differential::{known_word, live_word, program, Rng, Rom};
-use magnetar_cpu::{execute, padding, segment, start, Cursor, RECORD_WORDS};
+use magnetar_cpu::{execute, padding, records, segment, start};
+use magnetar_cpu::{Cursor, LastWriterIndex, RECORD_WORDS};
 
 const LISTS: u64 = 500;
 const MOST_CALLS: usize = 9;
@@ -78,4 +79,29 @@ fn an_execution_is_a_segment_and_padding() {
         halted += u64::from(cursor.is_halted());
     }
     assert!((50..LISTS - 50).contains(&halted), "{halted} halted");
+}
+
+/// Also if it is made in two parts. RAM that no store wrote holds the input.
+#[test]
+fn an_index_rebuilds_the_cursor() {
+    for number in 0..LISTS {
+        let rng = &mut Rng::new(SEED + 2 * LISTS + number);
+        let (rom, input) = machine(rng);
+        let (log, cursor) = list_of_calls(&rom, &input, rng);
+        let first = rng.below(log.len() / RECORD_WORDS + 1);
+        let (before, segment) = log.split_at(RECORD_WORDS * first);
+        let mut index = LastWriterIndex::of(before).expect("accepted");
+        assert_eq!(index.add(segment), Ok(()));
+        assert_eq!(LastWriterIndex::of(&log), Ok(index.clone()));
+        let latest = |at: u64| records(&log).nth(at as usize).expect("a record");
+        for (x, &found) in cursor.regs().iter().enumerate().skip(1) {
+            let wanted = index.register(x).map_or(0, |at| latest(at).rd_val());
+            assert_eq!(found, wanted, "list {number}, register {x}");
+        }
+        for (w, &found) in cursor.ram().iter().enumerate() {
+            let stored = index.ram(w).map(|at| latest(at).ram_new());
+            let wanted = stored.unwrap_or(*input.get(w).unwrap_or(&0));
+            assert_eq!(found, wanted, "list {number}, RAM word {w}");
+        }
+    }
 }
