@@ -1,6 +1,7 @@
 //! Times the static library beside the reference, in one run. The tables call the
 //! reference Rust.
 
+mod index;
 mod machine;
 mod mix;
 mod report;
@@ -9,10 +10,11 @@ mod target;
 mod untimed;
 
 use differential::{ordinary_word, program, register_shift, Rng};
+use index::Indexed;
 use machine::{Machine, LOOPS};
 use magnetar_cpu::MAX_PROGRAM_WORDS;
 use mix::Mix;
-use report::{print_cold, print_expansion, print_machines, print_short, print_test};
+use report::{print_cold, print_expansion, print_indexes, print_machines, print_short, print_test};
 use short::Short;
 use std::env;
 use std::process::ExitCode;
@@ -144,16 +146,18 @@ fn run(rounds: usize) -> Result<Vec<Missed>, String> {
     print_machines(&calls.machines, &mut missed);
     print_cold(&calls.cold, DISPLACING_MIB);
     print_short(&calls.shorts);
+    print_indexes(&calls.indexes, &mut missed);
     Ok(missed)
 }
 
-/// All segments that are timed. They share their rounds, so that times of a busy
-/// computer fall on every table.
+/// All segments and indexes that are timed. They share their rounds, so that times of
+/// a busy computer fall on every table.
 struct Calls {
     machines: Vec<Machine>,
     cold: Vec<Machine>,
     others: Vec<u64>,
     shorts: Vec<Short>,
+    indexes: Vec<Indexed>,
 }
 
 impl Calls {
@@ -163,6 +167,7 @@ impl Calls {
             cold: machines(&SEGMENTS[1..])?,
             others: vec![0; (DISPLACING_MIB << 20) / size_of::<u64>()],
             shorts: Short::all()?,
+            indexes: Indexed::all()?,
         })
     }
 
@@ -172,6 +177,7 @@ impl Calls {
             machine.cold_round(&mut self.others);
         }
         self.shorts.iter_mut().for_each(Short::round);
+        self.indexes.iter_mut().for_each(Indexed::round);
     }
 }
 

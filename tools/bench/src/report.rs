@@ -1,9 +1,10 @@
 //! The tables that are printed.
 
+use crate::index::Indexed;
 use crate::machine::Machine;
 use crate::mix::Mix;
 use crate::short::{nanoseconds_per_row, Short};
-use crate::target::{state, Missed, PACKED, RATIO, ROWS, RUN};
+use crate::target::{state, Missed, INDEX, PACKED, RATIO, ROWS, RUN};
 
 pub fn print_expansion(mixes: &[Mix], missed: &mut Vec<Missed>) {
     println!(
@@ -85,6 +86,22 @@ pub fn print_short(shorts: &[Short]) {
     }
     let row = nanoseconds_per_row(shorts);
     println!("for each row of its ROM a call of the library takes {row:.2} ns");
+}
+
+pub fn print_indexes(indexes: &[Indexed], missed: &mut Vec<Missed>) {
+    println!("\nThe last-writer index of a log, million records/s; target: ratio to an index");
+    println!("written in Rust at least {}", INDEX.least);
+    println!("(reading adds up the three words of each record that an index looks at)");
+    println!("                       records    Rust  library  ratio     reading   to it");
+    for indexed in indexes {
+        let (name, records) = (&indexed.name, indexed.records());
+        let [rust, library, read] = indexed.records_per_microsecond();
+        let ratio = library / rust;
+        let state = state(&format!("index, {name}, {records}"), ratio, &INDEX, missed);
+        let speeds =
+            format!("{name:<22}{records:>8}{rust:>8.1}{library:>9.1}{ratio:>7.2} {state:<6}");
+        println!("{speeds}{read:>7.1}{:>8.2}", library / read);
+    }
 }
 
 const MACHINES_HEAD: &str =
