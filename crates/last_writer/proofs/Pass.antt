@@ -1,8 +1,35 @@
 -- The pass over a log, record by record. Assumes nothing.
-use Rattle.std.proofs.Common.{◌≡◌, ℕ, suc, ◌+◌, ◌<◌, ◌≤◌, true, false, ◌&&◌, List, [], ◌∷◌, length, get_or, drop, refl, sym, ap, ◌∙◌, add-zero, add-one, arith}
+use Rattle.std.proofs.Common.{◌≡◌, ℕ, zero, suc, ◌+◌, ◌*◌, ◌/◌, ◌<◌, ◌≤◌, true, false, ◌&&◌, List, [], ◌∷◌, length, get_or, take, drop, Some, None, is_some, slice_get, refl, sym, ap, ap₂, ◌∙◌, add-zero, add-one, arith}
 use lib.ListN.{drop_of_length-le}
-use lib.Seq.{drop-cons}
+use lib.Seq.{drop-cons, drop-drop}
+use Rattle.std.proofs.lemmas.List.{get_or-take, get_or-drop}
+use Rattle.std.specs.Simd.{first_chunks}
+use Rattle.std.proofs.lemmas.Option.{get_or_from_slice_get}
+use mathlib.Core.Bool.{false≢true, and-true}
 use Rattle.last_writer.specs.Index.{entered, indexed, inside, in_range}
+
+-- ---- records two by two
+
+chunk-at : {X : Type 0} (n k i : ℕ) (xs : List X) → i < k → get_or (first_chunks n k xs) i [] ≡ take n (drop (n * i) xs)
+chunk-at n zero i xs h = absurd (omega arith)
+chunk-at n (suc k) zero xs h = let e : n * 0 ≡ 0 = omega arith in rw e
+chunk-at n (suc k) (suc i) xs h =
+    let e : n * suc i ≡ n + n * i = omega arith in
+    chunk-at n k i (drop n xs) (omega arith) ∙ rw (drop-drop, e)
+
+-- record j of pair i
+pub of-pair : {X : Type 0} {pairs : List (List X)} (xs : List X) (i j place : ℕ) (d : X) → pairs ≡ first_chunks 2 (length xs / 2) xs
+    → i < length xs / 2 → j < 2 → place ≡ 2 * i + j → get_or xs place d ≡ get_or (get_or pairs i []) j d
+of-pair xs i j place d e h l p = rw (e, p, chunk-at 2 (length xs / 2) i xs h, get_or-take, get_or-drop) refl
+
+-- the record behind the pairs, if there is one
+pub rest-at : {X : Type 0} (xs rest : List X) (k : ℕ) (x d : X) → rest ≡ drop k xs → Some x ≡ slice_get rest 0 → get_or xs k d ≡ x
+rest-at xs rest k x d e h =
+    sym (get_or-drop k xs 0 d ∙ ap (λ n. get_or xs n d) (add-zero k)) ∙ ap (λ l. get_or l 0 d) (sym e) ∙ get_or_from_slice_get rest 0 x d (sym h)
+
+pub no-rest : {X : Type 0} (rest : List X) → None ≡ slice_get rest 0 → length rest ≡ 0
+no-rest [] h = refl
+no-rest (x ∷ rest) h = absurd (false≢true (ap is_some h))
 
 -- ---- after i records: those left say what all say
 
@@ -28,20 +55,30 @@ module _ (from : ℕ) (rs : List (List ℕ)) (held₀ held : List ℕ) (i : ℕ)
     next : drop i rs ≡ get_or rs i [] ∷ drop (i + 1) rs
     next = drop-cons rs i [] more ∙ ap (λ k. get_or rs i [] ∷ drop k rs) (sym (add-one i))
 
-    -- it is out of range
-    pub off-range : false ≡ inside (get_or rs i []) → false ≡ in_range rs
+    -- it is r, and out of range
+    pub off-range : {r : List ℕ} → get_or rs i [] ≡ r → false ≡ inside r → false ≡ in_range rs
     unfolding in_range
-    off-range e = sym (g.range ∙ ap in_range next ∙ ap (λ b. b && in_range (drop (i + 1) rs)) (sym e))
+    off-range is e = sym (g.range ∙ ap in_range next ∙ ap (λ b. b && in_range (drop (i + 1) rs)) (ap inside is ∙ sym e))
 
-    -- it is in range, and entered
-    pub going-on : inside (get_or rs i []) ≡ true → Going from rs held₀ (entered (from + i) (get_or rs i []) held) (i + 1)
+    -- it is r, in range, and entered
+    pub going-on : {r : List ℕ} {at : ℕ} {new : List ℕ} → get_or rs i [] ≡ r → at ≡ from + i → true ≡ inside r → new ≡ entered at r held
+        → Going from rs held₀ new (i + 1)
     unfolding in_range indexed
-    going-on t =
+    going-on {r} {at} {new} is place t put =
         let e : suc (from + i) ≡ from + (i + 1) = omega arith in
+        let same : entered (from + i) (get_or rs i []) held ≡ new = ap₂ (λ k l. entered k l held) (sym place) is ∙ sym put in
         record {
-          range = g.range ∙ ap in_range next ∙ ap (λ b. b && in_range (drop (i + 1) rs)) t;
+          range = g.range ∙ ap in_range next ∙ ap (λ b. b && in_range (drop (i + 1) rs)) (ap inside is ∙ sym t);
           index =
               g.index
               ∙ ap (λ k. indexed (from + i) k held) next
-              ∙ ap (λ k. indexed k (drop (i + 1) rs) (entered (from + i) (get_or rs i []) held)) e;
+              ∙ ap₂ (λ k l. indexed k (drop (i + 1) rs) l) e same;
         }
+
+    -- it is r, and the last
+    pub last-range : {r : List ℕ} → get_or rs i [] ≡ r → length rs ≤ i + 1 → in_range rs ≡ inside r
+    unfolding in_range
+    last-range {r} is h =
+        g.range
+        ∙ ap in_range (next ∙ ap₂ ◌∷◌ is (drop_of_length-le rs {i = i + 1} h))
+        ∙ and-true (inside r)

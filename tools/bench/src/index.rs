@@ -8,7 +8,6 @@ use magnetar_cpu::{
     add_to_index, build_index, segment, start, IndexRefusal, INDEX_PLACES, NONE, RECORD_WORDS,
 };
 use std::hint::black_box;
-use std::rc::Rc;
 use std::time::Duration;
 
 /// The loops whose logs are indexed: 3 of 8 records are stores, and 1 of 16.
@@ -23,6 +22,9 @@ const BEFORE: u64 = 1 << 40;
 
 type Work = fn(&[u64], &mut [u64]) -> Result<(), IndexRefusal>;
 
+/// A call on an index in Rust and in the library. Their loop stands once in the library
+/// and twice in the Rust, and where its jumps come to lie makes a fifth in its speed: so
+/// the two calls are timed together.
 struct Call {
     name: &'static str,
     rust: Work,
@@ -92,48 +94,38 @@ enum Side {
     Read,
 }
 
-/// A log, a call on it, and the best times of the call so far.
+/// A log, and the best times so far of both calls on it, and of reading it.
 pub struct Indexed {
-    pub name: String,
-    call: &'static Call,
-    log: Rc<Vec<u64>>,
+    pub name: &'static str,
+    log: Vec<u64>,
     index: [u64; INDEX_PLACES],
     best: [Duration; 3],
 }
 
 impl Indexed {
-    /// Both calls on the log of every loop that stores, in every length.
+    /// The log of every loop that stores, in every length.
     pub fn all() -> Result<Vec<Indexed>, String> {
         let loops = LOOPS.iter().filter(|of| STORING.contains(&of.name));
         let logs = loops.flat_map(|of| LOGS.map(|records| Indexed::of_loop(of, records)));
-        let indexed: Result<Vec<_>, String> = logs.collect();
-        Ok(indexed?.into_iter().flatten().collect())
-    }
-
-    fn of_loop(of: &Loop, records: usize) -> Result<[Indexed; 2], String> {
-        let rows = Expansion::of(of.program).rows;
-        let mut log = vec![0; records * RECORD_WORDS];
-        segment(&rows, &mut start(&[]), records as u64, &mut log).map_err(|e| e.to_string())?;
-        let log: Rc<Vec<u64>> = log.into();
-        let [build, add] = &CALLS;
-        Ok([
-            Indexed::new(of.name, build, log.clone())?,
-            Indexed::new(of.name, add, log)?,
-        ])
+        logs.collect()
     }
 
     /// An error if the library and the Rust index do not agree on the log.
-    fn new(of: &str, call: &'static Call, log: Rc<Vec<u64>>) -> Result<Indexed, String> {
-        let name = format!("{of}, {}", call.name);
-        let lent: [u64; INDEX_PLACES] = std::array::from_fn(|place| place as u64);
-        let (mut index, mut rust) = (lent, lent);
-        let answer = (call.library)(&log, &mut index);
-        if answer.is_err() || answer != (call.rust)(&log, &mut rust) || index != rust {
-            return Err(format!("{name}: the library's index is wrong"));
+    fn of_loop(of: &Loop, records: usize) -> Result<Indexed, String> {
+        let rows = Expansion::of(of.program).rows;
+        let mut log = vec![0; records * RECORD_WORDS];
+        segment(&rows, &mut start(&[]), records as u64, &mut log).map_err(|e| e.to_string())?;
+        let index: [u64; INDEX_PLACES] = std::array::from_fn(|place| place as u64);
+        for call in &CALLS {
+            let (mut library, mut rust) = (index, index);
+            let answer = (call.library)(&log, &mut library);
+            if answer.is_err() || answer != (call.rust)(&log, &mut rust) || library != rust {
+                let (name, call) = (of.name, call.name);
+                return Err(format!("{name}, {call}: the library's index is wrong"));
+            }
         }
         Ok(Indexed {
-            name,
-            call,
+            name: of.name,
             log,
             index,
             best: [Duration::MAX; 3],
@@ -151,9 +143,13 @@ impl Indexed {
 
     fn time(&mut self, side: Side) {
         let (log, index) = (black_box(self.log.as_slice()), black_box(&mut self.index));
+        let mut both = |work: fn(&Call) -> Work| {
+            let times = CALLS.iter().map(|call| timed(|| work(call)(log, index)).0);
+            times.sum::<Duration>() / 2
+        };
         let time = match side {
-            Side::Rust => timed(|| (self.call.rust)(log, index)).0,
-            Side::Library => timed(|| (self.call.library)(log, index)).0,
+            Side::Rust => both(|call| call.rust),
+            Side::Library => both(|call| call.library),
             Side::Read => timed(|| read(log)).0,
         };
         let best = &mut self.best[side as usize];
@@ -164,7 +160,8 @@ impl Indexed {
         self.log.len() / RECORD_WORDS
     }
 
-    /// The speed of the Rust index, of the library, and of reading.
+    /// The speed of the Rust index, of the library, each in the mean of its two calls, and of
+    /// reading.
     pub fn records_per_microsecond(&self) -> [f64; 3] {
         let speed = |time: Duration| self.records() as f64 / time.as_secs_f64() / 1e6;
         self.best.map(speed)
@@ -223,11 +220,9 @@ mod tests {
 
     #[test]
     fn a_round_times_every_side() {
-        let [build, add] = Indexed::of_loop(&LOOPS[1], 1000).expect("answers that agree");
-        for mut indexed in [build, add] {
-            indexed.round();
-            assert!(indexed.best.iter().all(|&time| time < Duration::MAX));
-        }
+        let mut indexed = Indexed::of_loop(&LOOPS[1], 1000).expect("answers that agree");
+        indexed.round();
+        assert!(indexed.best.iter().all(|&time| time < Duration::MAX));
     }
 
     /// The share of stores is the one that is named.
@@ -235,8 +230,8 @@ mod tests {
     fn logs_have_stores() {
         let loops = LOOPS.iter().filter(|of| STORING.contains(&of.name));
         let stores = loops.map(|of| {
-            let [build, _] = Indexed::of_loop(of, 12_000).expect("answers that agree");
-            let records = build.log.chunks_exact(RECORD_WORDS);
+            let indexed = Indexed::of_loop(of, 12_000).expect("answers that agree");
+            let records = indexed.log.chunks_exact(RECORD_WORDS);
             records.filter(|record| record[16] >> 23 & 1 == 1).count()
         });
         assert_eq!(stores.collect::<Vec<_>>(), [4500, 748]);

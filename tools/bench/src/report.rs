@@ -89,12 +89,12 @@ pub fn print_short(shorts: &[Short]) {
 }
 
 pub fn print_indexes(indexes: &[Indexed], missed: &mut Vec<Missed>) {
-    println!("\nThe last-writer index of a log, million records/s; target: ratio to an index");
-    println!("written in Rust at least {}", INDEX.least);
+    println!("\nThe last-writer index of a log, built and added to, million records/s; target:");
+    println!("ratio to an index written in Rust at least {}", INDEX.least);
     println!("(reading adds up the three words of each record that an index looks at)");
     println!("                       records    Rust  library  ratio     reading   to it");
     for indexed in indexes {
-        let (name, records) = (&indexed.name, indexed.records());
+        let (name, records) = (indexed.name, indexed.records());
         let [rust, library, read] = indexed.records_per_microsecond();
         let ratio = library / rust;
         let state = state(&format!("index, {name}, {records}"), ratio, &INDEX, missed);

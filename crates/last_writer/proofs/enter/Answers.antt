@@ -1,12 +1,7 @@
 -- `last_writer::enter` meets its contract. Assumes nothing.
-use Rattle.std.proofs.Common.{refl, sym}
-use Rattle.last_writer.specs.Index.{entered}
+use Rattle.std.proofs.Common.{sym}
+use Rattle.last_writer.proofs.Range.{inside_has}
 use Rattle.last_writer.proofs.enter.Goals as goal
 
-pub returns-then-is_store : goal.returns-then-is_store
-unfolding entered
-returns-then-is_store c = rw (sym c.if-is_store.ensures) refl
-
-pub returns-else-is_store : goal.returns-else-is_store
-unfolding entered
-returns-else-is_store c = rw (sym c.if-is_store.ensures) refl
+pub put-requires : goal.put-requires
+put-requires c = let i = inside_has c.args.r.now (sym c.if-not-is_inside.ensures) in (i.register, i.address)
