@@ -144,7 +144,7 @@ pub fn fresh() -> Cursor
 
 // N numbers from `first` on.
 #[tactic(auto, using(crate::proofs::Lists::next_number, crate::proofs::Lists::all_numbers))]
-pub fn up_from<const N: usize>(first: u64) -> [u64; N]
+fn up_from<const N: usize>(first: u64) -> [u64; N]
     requires { first + N ≤ 2 ^ 64 }
     ensures { result ≡ up_from N first }
 {

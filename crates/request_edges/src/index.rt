@@ -1,6 +1,6 @@
 // The last-writer index (T-02). Each place of an index has a number of its own before a call; afterwards
 // all places are compared, those past the index too. A refused call is to leave them as they were.
-use edges::{Record, first_of, fresh, number_of, say_list, say_wrong, up_from, with};
+use edges::{Record, first_of, fresh, number_of, say_list, say_wrong, with};
 use interp::Cursor;
 use interp::Request::{self, Padding, Segment};
 use report::Console;
@@ -18,7 +18,7 @@ type Index = [u64; ROOM];
 
 // No place of it is a position that a test expects.
 fn lent() -> Index {
-    up_from(5000)
+    array::from_fn(|i| 5000 + i as u64)
 }
 
 // The index of no record, and past it what was lent.
