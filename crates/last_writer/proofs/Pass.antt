@@ -1,26 +1,13 @@
 -- The pass over a log, record by record. Assumes nothing.
-use Rattle.std.proofs.Common.{◌≡◌, ℕ, zero, suc, ◌+◌, ◌*◌, ◌/◌, ◌<◌, ◌≤◌, true, false, ◌&&◌, List, [], ◌∷◌, length, get_or, take, drop, Some, None, is_some, slice_get, refl, sym, ap, ap₂, ◌∙◌, add-zero, add-one, arith}
+use Rattle.std.proofs.Common.{◌≡◌, ℕ, suc, ◌+◌, ◌<◌, ◌≤◌, true, false, ◌&&◌, List, [], ◌∷◌, length, get_or, drop, Some, None, is_some, slice_get, refl, sym, ap, ap₂, ◌∙◌, add-zero, add-one, arith}
 use lib.ListN.{drop_of_length-le}
-use lib.Seq.{drop-cons, drop-drop}
-use Rattle.std.proofs.lemmas.List.{get_or-take, get_or-drop}
-use Rattle.std.specs.Simd.{first_chunks}
+use lib.Seq.{drop-cons}
+use Rattle.std.proofs.lemmas.List.{get_or-drop}
 use Rattle.std.proofs.lemmas.Option.{get_or_from_slice_get}
 use mathlib.Core.Bool.{false≢true, and-true}
 use Rattle.last_writer.specs.Index.{entered, indexed, inside, in_range}
 
 -- ---- records two by two
-
-chunk-at : {X : Type 0} (n k i : ℕ) (xs : List X) → i < k → get_or (first_chunks n k xs) i [] ≡ take n (drop (n * i) xs)
-chunk-at n zero i xs h = absurd (omega arith)
-chunk-at n (suc k) zero xs h = let e : n * 0 ≡ 0 = omega arith in rw e
-chunk-at n (suc k) (suc i) xs h =
-    let e : n * suc i ≡ n + n * i = omega arith in
-    chunk-at n k i (drop n xs) (omega arith) ∙ rw (drop-drop, e)
-
--- record j of pair i
-pub of-pair : {X : Type 0} {pairs : List (List X)} (xs : List X) (i j place : ℕ) (d : X) → pairs ≡ first_chunks 2 (length xs / 2) xs
-    → i < length xs / 2 → j < 2 → place ≡ 2 * i + j → get_or xs place d ≡ get_or (get_or pairs i []) j d
-of-pair xs i j place d e h l p = rw (e, p, chunk-at 2 (length xs / 2) i xs h, get_or-take, get_or-drop) refl
 
 -- the record behind the pairs, if there is one
 pub rest-at : {X : Type 0} (xs rest : List X) (k : ℕ) (x d : X) → rest ≡ drop k xs → Some x ≡ slice_get rest 0 → get_or xs k d ≡ x

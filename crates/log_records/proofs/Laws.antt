@@ -4,18 +4,15 @@ use mathlib.Core.Bool.{false≢true}
 use lib.ListN.{length-drop}
 use lib.Seq.{take-append-le, drop-append-le}
 use Rattle.std.specs.Simd.{first_chunks}
+use Rattle.expand.proofs.Chunks.{length-chunks}
 use Rattle.interp.specs.Replay.{records_in}
 use Rattle.log_records.specs.Records.{count, is_whole, whole_records}
 
 -- ---- as many as the log has
 
-length-chunks : (n : ℕ) (ws : List ℕ) → length (first_chunks 17 n ws) ≡ n
-length-chunks zero ws = refl
-length-chunks (suc n) ws = ap suc (length-chunks n (drop 17 ws))
-
 pub length-records : (log : List ℕ) → length (records_in log) ≡ count log
 unfolding records_in
-length-records log = length-chunks (count log) log
+length-records log = length-chunks 17 (count log) log
 
 -- ---- two logs joined, the first of them whole
 

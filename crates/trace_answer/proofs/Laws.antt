@@ -7,8 +7,8 @@ use native.Mathlib.Numerals.{add-one}
 use lib.ListN.{length, take, drop, set, get_or, length-append, length-drop}
 use Rattle.std.specs.Simd.{first_chunks}
 use Rattle.std.specs.Int.{from_le_bytes, w32}
-use Rattle.std.proofs.lemmas.List.{get_or-take, get_or-drop, take_rest}
-use lib.Seq.{drop-cons, drop-drop, set_at, take_at, drop_at}
+use Rattle.std.proofs.lemmas.List.{take_rest}
+use lib.Seq.{drop-cons, set_at, take_at, drop_at}
 use mathlib.Core.Bool.{Bool, true, false, not, ◌||◌, false≢true}
 use Prim.Native.Nat.{◌%◌}
 use native.Mathlib.Nat.{add-zero, zero-add}
@@ -18,6 +18,7 @@ use Rattle.std.specs.Prelude.{Ok, Err}
 use Rattle.expand.specs.declared.Refusal.{Refusal as NoProgram}
 use Rattle.expand.specs.Expand.{expansion_of, expand_refusal_of, expand_answer_of, rows_after, expand_refusal_number as programNumber, expand_told_of as expandedOf}
 use Rattle.expand.proofs.Laws.{laws as expanded}
+use Rattle.expand.proofs.Chunks.{chunk_reads}
 use Rattle.interp.specs.declared.Refusal.{Refusal}
 use Rattle.interp.specs.Machine.{start_of}
 use Rattle.interp.specs.Calls.{refusal_number}
@@ -53,18 +54,6 @@ all_filled k f e = rw (f.is, append-nil, ← e) f.stand
 
 -- ---- words
 
--- place j of chunk i
-chunk-at : (n k i : ℕ) (xs : List ℕ) → i < k → get_or (first_chunks n k xs) i [] ≡ take n (drop (n * i) xs)
-chunk-at n zero i xs h = elim h [ ]
-chunk-at n (suc k) zero xs h = let e : n * 0 ≡ 0 = omega arith in rw e
-chunk-at n (suc k) (suc i) xs h =
-    let e : n * suc i ≡ n + n * i = omega arith in
-    chunk-at n k i (drop n xs) (omega arith) ∙ rw (drop-drop, e)
-
-pub chunk_reads : (n : ℕ) (xs : List ℕ) {chunks : List (List ℕ)} (i j place : ℕ) → chunks ≡ first_chunks n (length xs / n) xs → i < length xs / n → j < n
-    → place ≡ n * i + j → get_or (get_or chunks i []) j 0 ≡ get_or xs place 0
-chunk_reads n xs i j place e h l p = rw (e, p, chunk-at n (length xs / n) i xs h, get_or-take, get_or-drop)
-
 -- the sum that `from_le_bytes` is
 le_word : (b : List ℕ) → from_le_bytes w32 b ≡ get_or b 0 0 + get_or b 1 0 * 256 ^ 1 + get_or b 2 0 * 256 ^ 2 + get_or b 3 0 * 256 ^ 3
 le_word b = refl
@@ -76,10 +65,10 @@ word_is bytes {chunks} i e h =
     omega (
       arith,
       le_word (get_or chunks i []),
-      chunk_reads 4 bytes i 0 (4 * i) e h (omega arith) (omega arith),
-      chunk_reads 4 bytes i 1 (4 * i + 1) e h (omega arith) (omega arith),
-      chunk_reads 4 bytes i 2 (4 * i + 2) e h (omega arith) (omega arith),
-      chunk_reads 4 bytes i 3 (4 * i + 3) e h (omega arith) (omega arith),
+      chunk_reads 4 bytes i 0 (4 * i) 0 e h (omega arith) (omega arith),
+      chunk_reads 4 bytes i 1 (4 * i + 1) 0 e h (omega arith) (omega arith),
+      chunk_reads 4 bytes i 2 (4 * i + 2) 0 e h (omega arith) (omega arith),
+      chunk_reads 4 bytes i 3 (4 * i + 3) 0 e h (omega arith) (omega arith),
     )
 
 pub words-next : (bytes : List ℕ) (n i : ℕ) → i < n → words_from (n - i) i bytes ≡ word_at bytes i ∷ words_from (n - (i + 1)) (i + 1) bytes

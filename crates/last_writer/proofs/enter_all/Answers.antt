@@ -1,7 +1,8 @@
 -- `last_writer::enter_all` meets its contract. Assumes nothing.
 use Rattle.std.proofs.Common.{◌≡◌, ◌+◌, ◌*◌, ◌/◌, [], length, get_or, drop, refl, sym, ap, ◌∙◌, arith}
 use Rattle.std.proofs.lemmas.Option.{slice_get_within}
-use Rattle.last_writer.proofs.Pass.{Going, of-pair, rest-at, no-rest, going-start, range-end, held-end, off-range, going-on, last-range}
+use Rattle.expand.proofs.Chunks.{chunk_reads}
+use Rattle.last_writer.proofs.Pass.{Going, rest-at, no-rest, going-start, range-end, held-end, off-range, going-on, last-range}
 use Rattle.last_writer.proofs.enter_all.Goals as goal
 use Rattle.last_writer.proofs.enter_all.Goals.{Else-not-enter, After-enter-in-Some}
 
@@ -12,14 +13,14 @@ pub returns-then-not-enter-clause-range : goal.returns-then-not-enter-clause-ran
 returns-then-not-enter-clause-range c =
     let i = c.loop-i.i in
     let rs = c.args.records.now in
-    off-range _ rs _ _ (2 * i) c.loop-i.invariant (omega arith) (of-pair rs i 0 (2 * i) [] c.as_chunks.ensures.front (omega arith) (omega arith) (omega arith)) c.if-not-enter.ensures.range
+    off-range _ rs _ _ (2 * i) c.loop-i.invariant (omega arith) (sym (chunk_reads 2 rs i 0 (2 * i) [] c.as_chunks.ensures.front (omega arith) (omega arith) (omega arith))) c.if-not-enter.ensures.range
 
 -- after the first record of a pair
 one_on : (c : Else-not-enter) → Going c.args.from c.args.records.now c.args.held.now c.enter.new.held (2 * c.loop-i.i + 1)
 one_on c =
     let i = c.loop-i.i in
     let rs = c.args.records.now in
-    going-on _ rs _ _ (2 * i) c.loop-i.invariant (omega arith) (of-pair rs i 0 (2 * i) [] c.as_chunks.ensures.front (omega arith) (omega arith) (omega arith))
+    going-on _ rs _ _ (2 * i) c.loop-i.invariant (omega arith) (sym (chunk_reads 2 rs i 0 (2 * i) [] c.as_chunks.ensures.front (omega arith) (omega arith) (omega arith)))
     refl c.if-not-enter.ensures.range (c.if-not-enter.ensures.held refl)
 
 pub returns-then-not-enter-2-clause-range : goal.returns-then-not-enter-2-clause-range
@@ -27,7 +28,7 @@ returns-then-not-enter-2-clause-range c =
     let i = c.loop-i.i in
     let rs = c.args.records.now in
     off-range _ rs _ _ (2 * i + 1) (one_on (goal.at.returns-then-not-enter-2-clause-range c).Else-not-enter) (omega arith)
-    (of-pair rs i 1 (2 * i + 1) [] c.as_chunks.ensures.front (omega arith) (omega arith) (omega arith)) c.if-not-enter-2.ensures.range
+    (sym (chunk_reads 2 rs i 1 (2 * i + 1) [] c.as_chunks.ensures.front (omega arith) (omega arith) (omega arith))) c.if-not-enter-2.ensures.range
 
 pub loop-i-preserved : goal.loop-i-preserved
 loop-i-preserved c =
@@ -36,7 +37,7 @@ loop-i-preserved c =
     let e : 2 * i + 1 + 1 ≡ 2 * (i + 1) = omega arith in
     rw e at
     (going-on _ rs _ _ (2 * i + 1) (one_on (goal.at.loop-i-preserved c).Else-not-enter) (omega arith)
-    (of-pair rs i 1 (2 * i + 1) [] c.as_chunks.ensures.front (omega arith) (omega arith) (omega arith))
+    (sym (chunk_reads 2 rs i 1 (2 * i + 1) [] c.as_chunks.ensures.front (omega arith) (omega arith) (omega arith)))
     (omega arith) c.if-not-enter-2.ensures.range (c.if-not-enter-2.ensures.held refl))
 
 -- the record behind the pairs
