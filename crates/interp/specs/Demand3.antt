@@ -38,8 +38,11 @@ pub record LatestStore (input : List ℕ) (rs : List (List ℕ)) (k x v : ℕ) :
       → ((j : ℕ) → i < j → j < k → stored (slice_index_or rs j []) ≡ true → word (slice_index_or rs j []) 6 ≢ x) → v ≡ word (slice_index_or rs i []) 9
   pub never : ((j : ℕ) → j < k → stored (slice_index_or rs j []) ≡ true → word (slice_index_or rs j []) 6 ≢ x) → v ≡ slice_index (loaded input) x
 
--- record k shows of its row's registers 1 to 31 what was last written there, and of its RAM word what was last stored there
+-- record k names a register below 64 and a RAM word below 256, and shows of its row's registers 1 to 31 what was last written
+-- there, and of its RAM word what was last stored there
 pub record Reads (rows input : List ℕ) (rs : List (List ℕ)) (k : ℕ) : Type 0 where
+  pub register : word (slice_index_or rs k []) 5 < 64
+  pub address : word (slice_index_or rs k []) 6 < 256
   pub first : 0 < (row_at rows (word (slice_index_or rs k []) 0)).rs1 → (row_at rows (word (slice_index_or rs k []) 0)).rs1 < 32
       → Latest rs k (row_at rows (word (slice_index_or rs k []) 0)).rs1 (word (slice_index_or rs k []) 1)
   pub second : 0 < (row_at rows (word (slice_index_or rs k []) 0)).rs2 → (row_at rows (word (slice_index_or rs k []) 0)).rs2 < 32

@@ -9,7 +9,7 @@ use lib.ListN.{length, get_or, drop, take, get_or-replicate, get_or-append}
 use lib.Seq.{length-take-le}
 use Rattle.interp.specs.Machine.{start_of}
 use Rattle.interp.specs.Calls.{Call, log, total}
-use Rattle.interp.specs.Replay.{records_in, replay, fresh}
+use Rattle.interp.specs.Replay.{records_in}
 use Rattle.interp.specs.Demand3.{Demand3}
 use Rattle.log_records.specs.Records.{count}
 use Rattle.last_writer.specs.Index.{places, none, blank, indexed, in_range, built_of, added_of}
@@ -18,7 +18,8 @@ use Rattle.last_writer.proofs.Entries.{says, length-indexed, indexed-latest}
 use Rattle.log_records.proofs.Laws.{length-records}
 use Rattle.last_writer.proofs.Answers.{Fine, fine, accepted, answer-index, answer-length, on, unwritten, length-blank}
 use Rattle.last_writer.proofs.Logs.{adds, logs-whole, logs-joined}
-use Rattle.last_writer.proofs.Rebuilt.{feed-range, rebuilds}
+use Rattle.last_writer.proofs.Rebuilt.{rebuilds}
+use Rattle.last_writer.proofs.Range.{all-inside}
 
 -- ---- the index of no record
 
@@ -60,8 +61,7 @@ written log before buffer e x i h l =
 module _ (demand : Demand3) (rows input : List ℕ) (calls : List Call) (buffer : List ℕ)
     (few : total rows (start_of input) calls ≤ 2 ^ 62) (room : places ≤ length buffer) where
   in-range : in_range (records_in (log rows (start_of input) calls)) ≡ true
-  unfolding replay
-  in-range = feed-range rows (fresh input) (records_in (log rows (start_of input) calls)) (demand.replays rows input calls).agrees
+  in-range = all-inside _ (λ k h. let r = demand.reads rows input calls k h in record { register = r.register; address = r.address })
 
   log-fine : Fine (log rows (start_of input) calls) 0 (length buffer)
   log-fine =

@@ -1,5 +1,5 @@
 -- Whether a log's records are in range. Assumes nothing.
-use Rattle.std.proofs.Common.{◌≡◌, ℕ, zero, suc, ◌%◌, ◌<◌, true, ◌&&◌, List, [], ◌∷◌, ◌++◌, length, get_or, ltb, refl, sym, ap, ◌∙◌, arith, ltb-true}
+use Rattle.std.proofs.Common.{◌≡◌, ℕ, zero, suc, ◌%◌, ◌<◌, true, ◌&&◌, List, [], ◌∷◌, ◌++◌, length, get_or, ltb, refl, sym, ap, ◌∙◌, arith, lt-ltb, ltb-true}
 use mathlib.Core.Bool.{and_assoc, and-eq-true_iff}
 use Rattle.interp.specs.Replay.{word, records_in}
 use Rattle.log_records.proofs.Laws.{records-append}
@@ -23,6 +23,13 @@ unfolding inside
 inside_has r t =
     let both = (and-eq-true_iff (ltb (word r 5) 64) (ltb (word r 6) 256)).0 t in
     record { register = ltb-true _ _ both.0; address = ltb-true _ _ both.1 }
+
+pub all-inside : (rs : List (List ℕ)) → ((k : ℕ) → k < length rs → Inside (get_or rs k [])) → in_range rs ≡ true
+unfolding in_range inside
+all-inside [] h = refl
+all-inside (r ∷ rs) h =
+    let here = h 0 (omega arith) in
+    rw (lt-ltb _ _ here.register, lt-ltb _ _ here.address) (all-inside rs (λ k l. h (suc k) (omega arith)))
 
 pub range-at : (rs : List (List ℕ)) → in_range rs ≡ true → (j : ℕ) → j < length rs → Inside (get_or rs j [])
 unfolding in_range

@@ -3,49 +3,20 @@
 use mathlib.Core.Path.{◌≡◌, refl, sym, ◌∙◌}
 use mathlib.Core.Logic.{◌≢◌}
 use mathlib.Core.Bool.{Bool, true, false, cond, ◌&&◌, ◌||◌, and-eq-true_iff, false≢true}
-use mathlib.Core.List.{List, [], ◌∷◌}
+use mathlib.Core.List.{List, []}
 use Prim.Native.Nat.{ℕ, ◌^◌, ◌≤◌, ◌<◌}
 use native.Mathlib.Omega.{arith}
-use lib.ListN.{length, get_or, drop}
-use lib.Dec.{eqb, ltb}
+use lib.ListN.{length, get_or}
+use lib.Dec.{eqb}
 use borrow.Author.Tests.{eqb-true, eq-eqb, ne_eqb}
 use Rattle.interp.specs.Machine.{start_of}
 use Rattle.interp.specs.Calls.{Call, last}
-use Rattle.interp.specs.Replay.{Replay, word, stored, all, musts, fed, feed}
+use Rattle.interp.specs.Replay.{word, stored}
 use Rattle.interp.specs.Demand3.{Ends}
-use Rattle.last_writer.specs.Index.{places, ram_place, none, writes, inside, in_range}
+use Rattle.last_writer.specs.Index.{places, ram_place, none, writes, in_range}
 use Rattle.last_writer.specs.Claims.{Says, register_from, ram_from, Rebuilds}
 use Rattle.last_writer.proofs.Entries.{Found, wrote, never, find}
 use Rattle.last_writer.proofs.Range.{Inside, range-at}
-
--- ---- a log that passes the replay is in range
-
-both : (a b : Bool) → (a && b) ≡ true → (a ≡ true) × (b ≡ true)
-both a b = (and-eq-true_iff a b).0
-
-third : (a b c d e : Bool) → (a && (b && (c && (d && e)))) ≡ true → (c && d) ≡ true
-third true true true true e t = refl
-third true true true false e t = t
-third true true false d e t = t
-third true false c d e t = absurd (false≢true t)
-third false b c d e t = absurd (false≢true t)
-
-musts-range : (rows : List ℕ) (s : Replay) (r : List ℕ) → all (musts rows s r) ≡ true → inside r ≡ true
-unfolding musts inside
-musts-range rows s r t =
-    third (eqb (word r 0) s.row) (ltb (word r 0) (length rows)) (ltb (word r 5) 64) (ltb (word r 6) 256) (all (drop 4 (musts rows s r))) t
-
-feed-agreed : (rows : List ℕ) (s : Replay) (rs : List (List ℕ)) → (feed rows s rs).agrees ≡ true → s.agrees ≡ true
-unfolding feed fed
-feed-agreed rows s [] t = t
-feed-agreed rows s (r ∷ rs) t = (both s.agrees (all (musts rows s r)) (feed-agreed rows (fed rows s r) rs t)).0
-
-pub feed-range : (rows : List ℕ) (s : Replay) (rs : List (List ℕ)) → (feed rows s rs).agrees ≡ true → in_range rs ≡ true
-unfolding feed fed in_range
-feed-range rows s [] t = refl
-feed-range rows s (r ∷ rs) t =
-    let here = musts-range rows s r ((both s.agrees (all (musts rows s r)) (feed-agreed rows (fed rows s r) rs t)).1) in
-    (and-eq-true_iff (inside r) (in_range rs)).1 (here, feed-range rows (fed rows s r) rs t)
 
 -- ---- which place a record in range writes
 
@@ -56,7 +27,7 @@ or-first false false c f h = h
 
 or-second : (a b c : Bool) → a ≡ false → (a || (b && c)) ≡ true → (b ≡ true) × (c ≡ true)
 or-second true b c f h = absurd (false≢true (sym f))
-or-second false b c f h = both b c h
+or-second false b c f h = (and-eq-true_iff b c).0 h
 
 module _ (r : List ℕ) (x : ℕ) where
   register-hit : x < 64 → writes r x ≡ true → word r 5 ≡ x

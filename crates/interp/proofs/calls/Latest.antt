@@ -142,6 +142,8 @@ shows rows input rs agreed k h =
     let inside : k ≤ length rs = omega arith in
     let t = each_pass (musts rows s (get_or rs k [])) (must_at rows (fresh input) rs agreed k h) in
     record {
+      register = ltb-true _ _ t.1.1.0;
+      address = ltb-true _ _ t.1.1.1.0;
       first = λ p q. latest rows input rs k inside _ _ (omega arith) (read_is s.regs _ _ p q t.1.1.1.1.0);
       second = λ p q. latest rows input rs k inside _ _ (omega arith) (read_is s.regs _ _ p q t.1.1.1.1.1.0);
       ram = latest_store rows input rs k inside _ _ (ltb-true _ _ t.1.1.1.0) (eqb-true _ _ t.1.1.1.1.1.1.0);
