@@ -18,7 +18,7 @@ use Rattle.expand.specs.Rows.{shifts, alu_row, load_row, store_row, branch_row, 
 use Rattle.interp.specs.Values.{plus, second_operand, alu_value, upper_value, ram_addr_of, byte_offset_of, load_value, store_width, store_value, branch_taken}
 use Rattle.interp.specs.declared.Cursor.{Cursor}
 use Rattle.interp.specs.declared.CycleRecord.{CycleRecord}
-use Rattle.interp.specs.Machine.{at, cell}
+use Rattle.interp.specs.Machine.{cell}
 use Rattle.interp.specs.Cycle.{alu_arm, load_flags, load_arm, store_arm, branch_flags, branch_arm, upper_arm, arm_of, record_of, scratched, regs_after, stores as storing, ram_after, commit, step_at}
 use Rattle.interp.proofs.Above.{laws}
 use Rattle.rv64i.specs.Manual.{low, sum, difference, Immediate, immediate, IsImmediate, immediate_value, ConstantShift, constant_shift, IsConstantShift, constant_shift_value, shamt, Operation, ADD, SUB, SLT, SLTU, XOR, OR, AND, operation, IsOperation, operation_value, IsLui, lui_value, Load, load, IsLoad, loaded_value, load_address, Store, store, IsStore, stored, store_address, Branch, BEQ, BNE, BLT, BGE, BLTU, BGEU, branch, IsBranch, taken, x_rs1, x_rs2, i_immediate, s_immediate}

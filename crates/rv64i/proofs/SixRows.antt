@@ -15,7 +15,6 @@ use Rattle.decode.specs.Decode.{decode_of}
 use Rattle.decode.specs.Claims.{class_of}
 use Rattle.decode.specs.declared.Inst.{Inst}
 use Rattle.expand.specs.Rows.{shifts, stage_row, row_as, row_of_inst}
-use Rattle.expand.specs.Expand.{stages}
 use Rattle.expand.specs.declared.MicroPc.{MicroPc}
 use Rattle.expand.specs.declared.RomRow.{RomRow}
 use Rattle.interp.specs.Values as values
