@@ -3,7 +3,7 @@
 #![tactic(auto)]
 
 ghost use Rattle.std.specs.Prelude.{◌≡◌, ◌+◌, ◌%◌, ◌^◌, ◌≤◌, ◌<◌, ◌++◌, length, take, drop};
-ghost use Rattle.expand.specs.Rows.{is_reg_shift, row, alu_row, stage_rd, stage_row, op_row, load_row, store_row, branch_row, upper_row, jump_row, system_row, row_of_inst, row_of};
+ghost use Rattle.expand.specs.Rows.{is_reg_shift, row, alu_row, stage_rd, stage_row, stage_in_byte, op_row, load_row, store_row, branch_row, upper_row, jump_row, system_row, row_of_inst, row_of};
 ghost use Rattle.expand.specs.Expand.{rows_of, expansion_of, starts_of, start_at, expand_refusal_number, expand_told_of, expand_answer_of, rows_after, starts_after, is_expansion};
 ghost use Rattle.expand.specs.Code.{stages_after};
 ghost use Rattle.expand.specs.Claims.{Decides, ExpansionLaws};
@@ -13,8 +13,8 @@ use decode::{Inst, Opcode};
 // A 64-bit word.
 pub type Word = u64;
 
-// The rows of a register shift: one for each bit of an amount below 64.
-pub const SHIFT_STAGES: usize = 6;
+// The rows of a register shift: one for each bit of an amount below 64. Stages are counted in a byte (T-03).
+pub const SHIFT_STAGES: u8 = 6;
 
 // The longest program that is expanded.
 pub const MAX_PROGRAM_WORDS: usize = 1048576;
@@ -33,7 +33,7 @@ pub enum VirtualKind {
     // A full ALU operation, register or immediate form.
     Alu,
     // One stage of a register shift, 0 to 5.
-    ShiftStage { stage: usize },
+    ShiftStage { stage: u8 },
     Load,
     Store,
     Branch,
@@ -84,7 +84,7 @@ impl From<Refusal> for u64 {
 }
 
 // The register that a stage writes: the last of them writes rd, the others none.
-fn stage_rd(rd: usize, stage: usize) -> usize
+fn stage_rd(rd: usize, stage: u8) -> usize
     ensures { result ≡ stage_rd rd stage }
 {
     if stage == SHIFT_STAGES - 1 { rd } else { 0 }
@@ -111,7 +111,7 @@ fn alu_row(i: Inst) -> RomRow
     row(i, VirtualKind::Alu)
 }
 
-fn stage_row(i: Inst, stage: usize) -> RomRow
+fn stage_row(i: Inst, stage: u8) -> RomRow
     ensures { result ≡ stage_row i stage }
 {
     RomRow {
@@ -120,11 +120,18 @@ fn stage_row(i: Inst, stage: usize) -> RomRow
     }
 }
 
-fn op_row(i: Inst, stage: usize) -> RomRow
-    ensures { result ≡ op_row i stage }
+// The stage that the upper half of a row word gives. One that does not fit a byte gives 255, which no register shift has.
+fn stage_in_byte(upper: u64) -> u8
+    ensures { result ≡ stage_in_byte upper }
+{
+    upper.min(u8::MAX as u64) as u8
+}
+
+fn op_row(i: Inst, upper: u64) -> RomRow
+    ensures { result ≡ op_row i (stage_in_byte upper) }
 {
     match i.funct3 {
-        1 | 5 => stage_row(i, stage),
+        1 | 5 => stage_row(i, stage_in_byte(upper)),
         _ => alu_row(i),
     }
 }
@@ -191,12 +198,13 @@ fn system_row(i: Inst) -> RomRow
     }
 }
 
+// It takes the upper half, so that only a register shift asks for its stage: every live cycle takes a row apart.
 #[tactic(auto, unfolding(crate::specs::Rows::row_as))]
-fn row_of_inst(i: Inst, stage: usize) -> RomRow
-    ensures { result ≡ row_of_inst i stage }
+fn row_of_inst(i: Inst, upper: u64) -> RomRow
+    ensures { result ≡ row_of_inst i (stage_in_byte upper) }
 {
     match i.opcode {
-        Opcode::Op => op_row(i, stage),
+        Opcode::Op => op_row(i, upper),
         Opcode::OpImm | Opcode::Op32 | Opcode::OpImm32 => alu_row(i),
         Opcode::Load => load_row(i),
         Opcode::Store => store_row(i),
@@ -213,8 +221,7 @@ pub fn rom_row(word: u64) -> RomRow
     ensures { result ≡ row_of word }
 {
     let raw = (word % 0x1_0000_0000) as u32;
-    let stage = (word / 0x1_0000_0000) as usize;
-    row_of_inst(decode::decode(raw), stage)
+    row_of_inst(decode::decode(raw), word / 0x1_0000_0000)
 }
 
 // The row position of an instruction's first row, by the starts of an expansion; none where the program has no such instruction.
@@ -239,11 +246,11 @@ fn stages_after(rows: &[u64], i: usize, v: u64) -> bool
     requires { (i < length rows.now) × (v < 2 ^ 32) }
     ensures { result ≡ stages_after rows.now i v }
 {
-    if rows.len() - i < SHIFT_STAGES {
+    if rows.len() - i < SHIFT_STAGES as usize {
         return false;
     }
     for k in 1..SHIFT_STAGES {
-        if rows[i + k] != v + 0x1_0000_0000 * (k as u64) {
+        if rows[i + k as usize] != v + 0x1_0000_0000 * (k as u64) {
             return false;
         }
     }
@@ -266,7 +273,7 @@ pub fn is_expansion(rows: &[u64]) -> bool
             if !stages_after(rows, i, v) {
                 return false;
             }
-            i += SHIFT_STAGES;
+            i += SHIFT_STAGES as usize;
         } else {
             i += 1;
         }
@@ -286,9 +293,9 @@ pub fn expansion_laws()
     ensures { ExpansionLaws }
 {}
 
-// How many rows a word has.
+// How many rows a word has, counted as stages are.
 #[tactic(auto, using(crate::proofs::Steps::rows_long))]
-fn row_count(raw: u32) -> usize
+fn row_count(raw: u32) -> u8
     ensures { result ≡ length (rows_of raw) }
 {
     if is_reg_shift(raw as u64) {
@@ -302,7 +309,7 @@ fn row_count(raw: u32) -> usize
 fn count_rows(program: &[u32]) -> usize
     ensures { result ≡ length (expansion_of program.now) }
 {
-    program.iter().map(|raw| row_count(*raw)).sum()
+    program.iter().map(|raw| row_count(*raw) as usize).sum()
 }
 
 // Writes the rows of a word from `at` on, and answers the position after them. Row k is stage k, so the loop goes over k.
@@ -315,9 +322,9 @@ fn put(rows: &mut [u64], at: MicroPc, raw: u32) -> MicroPc
     let i = at.0;
     let count = row_count(raw);
     for k in 0..count {
-        rows[i + k] = raw as u64 + 0x1_0000_0000 * (k as u64);
+        rows[i + k as usize] = raw as u64 + 0x1_0000_0000 * (k as u64);
     }
-    MicroPc(i + count)
+    MicroPc(i + count as usize)
 }
 
 // Writes the rows and the starts of a program to the first places of the two buffers.

@@ -20,7 +20,7 @@ const MAX_ROWS: usize = 1365;
 const MAX_BYTES: usize = MAX_ROWS * 48;
 
 // The rows that so many words can have.
-const MAX_EXPANSION: usize = MAX_ROWS * SHIFT_STAGES;
+const MAX_EXPANSION: usize = MAX_ROWS * SHIFT_STAGES as usize;
 
 // No row word and no row position: what stands in a buffer before a call.
 const GUARD: u64 = u64::MAX;

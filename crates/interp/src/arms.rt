@@ -58,20 +58,14 @@ pub(crate) fn alu_arm(row: RomRow, next: MicroPc, regs: &[u64; Cursor::REGS]) ->
 }
 
 // The accumulator: rs1 at stage 0, else what the stage before left.
-fn accumulated(stage: usize, a: u64, acc: u64) -> u64
+fn accumulated(stage: u8, a: u64, acc: u64) -> u64
     ensures { result ≡ (if nat_eq stage 0 then a else acc) }
 {
     if stage == 0 { a } else { acc }
 }
 
 // Stages 0 to 4 leave the value in the accumulator, stage 5 writes it to rd.
-fn stage_effect(
-    stage: usize,
-    row: RomRow,
-    next: MicroPc,
-    v: u64,
-    regs: &[u64; Cursor::REGS],
-) -> Effect
+fn stage_effect(stage: u8, row: RomRow, next: MicroPc, v: u64, regs: &[u64; Cursor::REGS]) -> Effect
     requires { InRange row }
     ensures { result ≡ stage_effect stage row next v regs.now }
 {
@@ -92,7 +86,7 @@ fn stage_effect(
 }
 
 pub(crate) fn stage_arm(
-    stage: usize,
+    stage: u8,
     row: RomRow,
     next: MicroPc,
     acc: u64,

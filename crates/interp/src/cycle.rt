@@ -200,7 +200,7 @@ fn next_row(at: MicroPc, count: usize) -> MicroPc
 }
 
 // The effect of a stage of a shift, with the accumulator from where it lies.
-fn stage_of(stage: usize, row: RomRow, next: MicroPc, memory: &Memory) -> Effect
+fn stage_of(stage: u8, row: RomRow, next: MicroPc, memory: &Memory) -> Effect
     requires { InRange row }
     ensures { result ≡ stage_arm stage row next (accumulator memory.now.regs) memory.now.regs }
 {

@@ -102,7 +102,7 @@ pub(crate) fn upper_value(raw: u32, imm: u64, mp: MicroPc) -> u64
 }
 
 // No stage past the sixth shifts, so that every stage has an answer: a shift by 64 places or more has none.
-fn stage_amount(stage: usize, b: u64) -> u64
+fn stage_amount(stage: u8, b: u64) -> u64
     ensures { result ≡ stage_amount stage b }
 {
     if stage < 6 {
@@ -113,7 +113,7 @@ fn stage_amount(stage: usize, b: u64) -> u64
 }
 
 // The accumulator after a stage of a register shift by b.
-pub(crate) fn stage_value(stage: usize, funct3: u32, raw: u32, acc: u64, b: u64) -> u64
+pub(crate) fn stage_value(stage: u8, funct3: u32, raw: u32, acc: u64, b: u64) -> u64
     ensures { result ≡ stage_value stage funct3 raw acc b }
 {
     shift_by(funct3, raw, acc, stage_amount(stage, b))

@@ -8,16 +8,16 @@ use Rattle.expand.specs.Code.{begins_with}
 use Rattle.expand.proofs.Follow.{short, stage_hit, stage_miss}
 use Rattle.expand.proofs.stages_after.Goals as goal
 
-pub returns-then-rows-i-lt-SHIFT_STAGES : goal.returns-then-rows-i-lt-SHIFT_STAGES
-returns-then-rows-i-lt-SHIFT_STAGES c =
-    let a = c.args in
-    sym (short (stages 5 1 a.v) (drop (a.i + 1) a.rows.now) (simp length-drop (omega arith)))
-
 pub returns-then-rows-i : goal.returns-then-rows-i
 returns-then-rows-i c =
     let a = c.args in
+    sym (short (stages 5 1 a.v) (drop (a.i + 1) a.rows.now) (simp length-drop (omega arith)))
+
+pub returns-then-rows-i-2 : goal.returns-then-rows-i-2
+returns-then-rows-i-2 c =
+    let a = c.args in
     let at = c.loop-k in
-    sym (at.invariant.4 ∙ stage_miss a.rows.now a.i a.v at.k at.invariant.3 (omega arith) c.if-rows-i.true)
+    sym (at.invariant.4 ∙ stage_miss a.rows.now a.i a.v at.k at.invariant.3 (omega arith) c.if-rows-i-2.true)
 
 pub loop-k-preserved : goal.loop-k-preserved
 loop-k-preserved c =
@@ -27,7 +27,7 @@ loop-k-preserved c =
       omega arith,
       at.invariant.2,
       at.invariant.3,
-      at.invariant.4 ∙ stage_hit a.rows.now a.i a.v at.k at.invariant.3 (omega arith) c.if-rows-i.false,
+      at.invariant.4 ∙ stage_hit a.rows.now a.i a.v at.k at.invariant.3 (omega arith) c.if-rows-i-2.false,
     )
 
 pub returns : goal.returns
