@@ -5,7 +5,7 @@
 ghost use Rattle.std.specs.Prelude.{◌≤◌};
 
 use edges::{SLL, STAGES};
-use expand::InstPos;
+use expand::{InstPos, VirtualKind};
 use report::Console;
 use std::array;
 
@@ -24,6 +24,15 @@ const ROWS: [u64; 8] = [
     STAGES[4],
     STAGES[5],
     0x0000_0073,
+];
+
+// Row words of the shift: its last stage, and upper halves of 6, 255, 256 and 2^32 - 1, which are no stage of it.
+const SHIFTS: [u64; 5] = [
+    STAGES[5],
+    0x6_0020_91b3,
+    0xff_0020_91b3,
+    0x100_0020_91b3,
+    0xffff_ffff_0020_91b3,
 ];
 
 // A program, and the rows and starts that are expected of it. Where a run is said, and under which name,
@@ -203,6 +212,14 @@ fn say_row(to: Console, name: &str, word: u64) {
     to.say_bytes(&listing::row_line_of(word, 0));
 }
 
+// The stage that a row word of a register shift gives.
+fn say_stage(to: Console, word: u64) {
+    if let VirtualKind::ShiftStage { stage } = expand::rom_row(word).kind {
+        let upper = word >> 32;
+        to.say(format_args!("upper half {upper}: stage {stage}\n"));
+    }
+}
+
 fn main(rt: HostRuntime) {
     let to = Console::of(&rt);
     run_none(to);
@@ -214,4 +231,7 @@ fn main(rt: HostRuntime) {
     say_starts(to);
     say_row(to, "row word 2^64 - 1", u64::MAX);
     say_row(to, "stage 9 of a shift", 0x9_0020_91b3);
+    for word in SHIFTS {
+        say_stage(to, word);
+    }
 }
