@@ -258,8 +258,7 @@ fn stages_after(rows: &[u64], i: usize, v: u64) -> bool
 }
 
 // Whether the rows are the expansion of a program of any length, in one pass. Refusal 3 is its answer false.
-// It counts its place, since a step is one row or six; a walk over the rows that are left (`split_first`) is no plainer and takes
-// a third longer.
+// It counts its place, since a step is one row or six: a walk over the rows that are left (`split_first`) is no plainer.
 pub fn is_expansion(rows: &[u64]) -> bool
     ensures { result ≡ is_expansion rows.now }
 {
