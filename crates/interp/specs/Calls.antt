@@ -1,7 +1,8 @@
 -- The segment call and the padding call: their refusals, what each returns and leaves in memory, and lists of them (01,
 -- "Padding cycle, segment call, padding call" and "Joined log and replay"). Assumes nothing: these are definitions.
 use Rattle.std.specs.Prelude.{ℕ, zero, suc, ◌+◌, ◌*◌, ◌^◌, Bool, true, false, not, ◌&&◌, Result, Ok, Err, List, [], ◌∷◌, ◌++◌, length, take, drop, ◌==◌, nat_lt}
-use Rattle.expand.specs.Expand.{Line, line, first_met, is_expansion}
+use Rattle.refusal_table.specs.Table.{Line, line, first_met}
+use Rattle.expand.specs.Expand.{is_expansion}
 use Rattle.interp.specs.declared.Cursor.{Cursor}
 use Rattle.interp.specs.declared.CycleRecord.{CycleRecord}
 use Rattle.interp.specs.declared.Refusal.{Refusal}

@@ -1,6 +1,6 @@
 // Whether a call is accepted: the refusals of document 01's table, lowest number first.
 ghost use Rattle.std.specs.Prelude.{◌≡◌, ◌+◌, ◌*◌, ◌^◌, not, ◌&&◌, nat_lt};
-ghost use Rattle.expand.specs.Expand.{first_met};
+ghost use Rattle.refusal_table.specs.Table.{first_met};
 ghost use Rattle.interp.specs.Calls.{row_lines, call_lines, refusals, outcome_number};
 ghost use Rattle.interp.specs.Code.{wants_segment, length_of};
 ghost use Rattle.interp.specs.Execute.{length_lines, execute_refusals};

@@ -10,13 +10,13 @@ use lib.ListN.{length, get_or, take, drop, length-append, length-drop, length-re
 use lib.Seq.{take_at, drop_at}
 use lib.Dec.{eqb, ltb}
 use borrow.Author.Tests.{eqb-true, eq-eqb, ltb-false, le-ltb, not-false}
-use Rattle.expand.specs.Expand.{first_met}
+use Rattle.refusal_table.specs.Table.{first_met}
 use Rattle.interp.specs.Replay.{records_in}
 use Rattle.last_writer.specs.declared.Refusal.{Refusal}
 use Rattle.last_writer.specs.declared.Refusal.TheVariants.{Partial, OutOfRange, TooManyRecords, Short}
 use Rattle.log_records.specs.Records.{count, is_whole}
 use Rattle.log_records.proofs.Laws.{length-records, count-append, whole-append, records-append}
-use Rattle.expand.proofs.Tables.{unmet}
+use Rattle.refusal_table.proofs.Laws.{unmet}
 use Rattle.last_writer.specs.Index.{places, none, indexed, blank, in_range, record_lines, index_refusals, index_settled, answer_from, added_of, index_refusal_number, index_outcome_number}
 use Rattle.last_writer.specs.Claims.{Unwritten, SameAnswer}
 use Rattle.last_writer.proofs.Entries.{length-indexed, indexed-append, indexed-kept}

@@ -4,7 +4,7 @@
 #![tactic(auto)]
 
 ghost use Rattle.std.specs.Prelude.{◌≡◌, ◌+◌, ◌*◌, ◌/◌, ◌%◌, ◌^◌, ◌<◌, ◌≤◌, true, cond, ◌&&◌, ◌++◌, length, take, drop, ◌==◌, nat_lt};
-ghost use Rattle.expand.specs.Expand.{first_met};
+ghost use Rattle.refusal_table.specs.Table.{first_met};
 ghost use Rattle.interp.specs.Replay.{word, stored, records_in};
 ghost use Rattle.last_writer.specs.Index.{ram_place, entered, indexed, inside, in_range, record_lines, index_refusals, answer_from, built_of, added_of, index_refusal_number, index_outcome_number};
 ghost use Rattle.last_writer.specs.Claims.{IndexLaws};

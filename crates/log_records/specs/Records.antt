@@ -1,7 +1,7 @@
 -- A log taken as records: how many it has, whether it is a whole number of them, and the line of the tables of refusals that it
 -- meets else (02, T-02). `records_in` is of interp's Replay. Assumes nothing: these are definitions.
 use Rattle.std.specs.Prelude.{ℕ, ◌/◌, ◌%◌, Bool, not, cond, List, length, ◌==◌, Option, None, Some}
-use Rattle.expand.specs.Expand.{Line, line}
+use Rattle.refusal_table.specs.Table.{Line, line}
 use Rattle.interp.specs.Replay.{records_in}
 
 -- how many records a log has

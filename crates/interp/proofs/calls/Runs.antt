@@ -2,8 +2,8 @@
 use Rattle.std.proofs.Common.{◌≡◌, ℕ, zero, suc, ◌+◌, ◌*◌, ◌<◌, true, false, ◌&&◌, ltb, ◌≢◌, List, [], ◌∷◌, ◌++◌, map, length, take, drop, sym, refl, ap, ◌∙◌, ap₂, append_assoc, append-nil, suc-add, zero-add, arith, length-append, drop-drop, take_at, drop_at, ltb-true}
 use mathlib.Core.Bool.{and-eq-true_iff, false≢true}
 use borrow.Author.Tests.{not-false}
-use Rattle.expand.specs.Expand.{Line, first_met}
-use Rattle.expand.proofs.Tables.{unmet}
+use Rattle.refusal_table.specs.Table.{Line, first_met}
+use Rattle.refusal_table.proofs.Laws.{unmet}
 use Rattle.interp.specs.declared.Cursor.{Cursor}
 use Rattle.interp.specs.declared.CycleRecord.{CycleRecord}
 use Rattle.interp.specs.Machine.{words, flat}

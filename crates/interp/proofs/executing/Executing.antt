@@ -2,7 +2,7 @@
 -- halted. Assumes nothing.
 use Rattle.std.proofs.Common.{◌≡◌, ℕ, zero, suc, ◌+◌, ◌-◌, ◌*◌, ◌^◌, ◌<◌, ◌≤◌, Bool, true, false, List, [], ◌∷◌, ◌++◌, length, take, drop, replicate, sym, refl, ap, ◌∙◌, ap₂, append_assoc, append-nil, zero-add, arith, length-append, take_at}
 use lib.ListN.{length-replicate}
-use Rattle.expand.specs.Expand.{first_met}
+use Rattle.refusal_table.specs.Table.{first_met}
 use Rattle.interp.specs.declared.Cursor.{Cursor}
 use Rattle.interp.specs.declared.Request.TheVariants.{Segment, Padding}
 use Rattle.interp.specs.Machine.{start_of, flat}

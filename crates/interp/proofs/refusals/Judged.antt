@@ -2,8 +2,9 @@
 use Rattle.std.proofs.Common.{◌≡◌, ℕ, zero, suc, ◌+◌, ◌*◌, ◌^◌, ◌<◌, ◌≤◌, Bool, true, false, cond, not, ◌&&◌, eqb, ltb, List, [], ◌++◌, length, drop, sym, refl, ◌∙◌, arith, ltb-false, ltb-true, le-ltb, lt-ltb, ne_eqb}
 use mathlib.Core.Bool.{false≢true}
 use borrow.Author.Tests.{eqb-false}
-use Rattle.expand.specs.Expand.{Line, first_met, is_expansion}
-use Rattle.expand.proofs.Tables.{unmet}
+use Rattle.refusal_table.specs.Table.{Line, first_met}
+use Rattle.expand.specs.Expand.{is_expansion}
+use Rattle.refusal_table.proofs.Laws.{unmet}
 use Rattle.interp.specs.declared.Cursor.{Cursor}
 use Rattle.interp.specs.declared.Refusal.{Refusal}
 use Rattle.interp.specs.declared.Refusal.TheVariants.{NoRows, TooManyRows, NoExpansion, OutsideRows, TooManyCycles, Short}

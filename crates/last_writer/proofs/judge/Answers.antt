@@ -1,6 +1,6 @@
 -- `last_writer::judge` meets its contract. Assumes nothing.
 use Rattle.std.proofs.Common.{◌≡◌, ℕ, Bool, List, length, sym, ap, ap₂, ◌∙◌, arith}
-use Rattle.expand.specs.Expand.{first_met}
+use Rattle.refusal_table.specs.Table.{first_met}
 use Rattle.interp.specs.Replay.{records_in}
 use Rattle.log_records.specs.Records.{count}
 use Rattle.log_records.proofs.Laws.{partial, taken, length-records}
