@@ -9,7 +9,7 @@ use Rattle.interp.specs.Machine.{at, start_of, cell, words}
 use Rattle.interp.specs.Cycle.{live}
 use Rattle.interp.specs.Calls.{end}
 use Rattle.interp.specs.Execute.{execute_of}
-use Rattle.lines.specs.Lines.{codes}
+use Rattle.lines.specs.Text.{codes}
 use Rattle.trace_answer.specs.Trace.{trace_of}
 
 -- a machine at a row, with x1 and x2; its other registers and its RAM are 0

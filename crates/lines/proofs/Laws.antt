@@ -1,45 +1,18 @@
--- The digits of a number, texts put one behind the other, and the lengths of texts. Assumes nothing.
+-- Texts put one behind the other, and the lengths of texts. Assumes nothing.
 use mathlib.Core.Path.{◌≡◌, refl, sym, ap, ◌∙◌}
 use mathlib.Core.List.{List, [], ◌∷◌, ◌++◌, append_assoc, append-nil}
-use Prim.Native.Nat.{ℕ, zero, suc, ◌+◌, ◌-◌, ◌*◌, ◌/◌, ◌%◌, ◌^◌, ◌≤◌, ◌<◌}
-use mathlib.Core.Logic.{⊎_elim}
-use native.Mathlib.Nat.{eq-zero-or-pos}
+use Prim.Native.Nat.{ℕ, zero, suc, ◌+◌, ◌-◌, ◌*◌, ◌/◌, ◌≤◌, ◌<◌}
 use native.Mathlib.Omega.{arith}
 use native.Mathlib.Numerals.{add-one}
-use Rattle.std.proofs.Common.{rules}
-use Rattle.std.specs.Fmt.{decimal as printed}
-use Rattle.std.proofs.lemmas.Fmt.{AppendsLastDigit, decimal_from_appends_wide, decimal_step_wide, length-decimal-le_wide}
+use Rattle.std.proofs.Common.{cond, nat_le, None, Some, le-leb}
+use Rattle.std.proofs.lemmas.Bool.{lt-leb}
 use lib.ListN.{length, take, drop, get_or, set, length-append, length-take, length-drop, drop_of_length-le}
 use Rattle.std.proofs.lemmas.List.{take_all, take_at, drop_at, get_or-take, drop-take, take-take}
 use borrow.Rule.Slice.PartMut.{put_mid}
 use lib.Seq.{drop-cons, drop-drop, set_at}
-use Rattle.lines.specs.Lines.{digits, decimal, number_text, line_of, lines_of, answer_text, refused_text, written}
-
--- ---- digits
-
-pub appends : AppendsLastDigit digits
-unfolding digits
-appends = search rules
-
--- what std's Display prints
-pub decimal_is : (n : ℕ) → n < 10 ^ 20 → decimal n ≡ printed n
-decimal_is n h = decimal_from_appends_wide digits appends 20 n (omega arith) (length-decimal-le_wide 20 n (omega arith) h (omega arith))
-
--- the digits in front of the last one are none, or those of a tenth
-pub decimal_alone : (n : ℕ) → n < 10 → decimal n ≡ (48 + n % 10) ∷ []
-decimal_alone n h = let e : n % 10 ≡ n = omega arith in rw e (appends.one 19 n h)
-
-pub decimal-last : (n : ℕ) → 10 ≤ n → n < 10 ^ 20 → decimal n ≡ decimal (n / 10) ++ ((48 + n % 10) ∷ [])
-decimal-last n h l = decimal_is n l ∙ decimal_step_wide n h (omega arith) ∙ rw (decimal_is (n / 10) (omega arith))
-
-pub digits-few : (k n : ℕ) → length (digits k n) ≤ k
-unfolding digits
-digits-few zero n = omega arith
-digits-few (suc k) n =
-    ⊎_elim
-    (λ e. rw (appends.one k n (omega arith)) (omega arith))
-    (λ p. rw (appends.more k n (omega arith), length-append) (omega (arith, digits-few k (n / 10))))
-    (eq-zero-or-pos (n / 10))
+use Rattle.lines.specs.Text.{decimal}
+use Rattle.lines.specs.Lines.{number_text, line_of, lines_of, answer_text, refused_text, written}
+use Rattle.lines.proofs.Decimal.{digits-few}
 
 -- ---- texts
 
@@ -116,6 +89,12 @@ pub word_longer : (word mark : ℕ) → length (number_text word mark) ≡ lengt
 unfolding number_text
 word_longer word mark = length-append (decimal word) _
 
+-- no words, no text
+pub no_words : (ws : List ℕ) → length ws < 1 → line_of ws ≡ []
+unfolding line_of
+no_words [] h = refl
+no_words (w ∷ ws) h = absurd (omega arith)
+
 -- a comma behind each word but the last
 pub word_next : (ws : List ℕ) (i : ℕ) → i < length (take (length ws - 1) ws)
     → line_of (drop i ws) ≡ number_text (get_or (take (length ws - 1) ws) i 0) 44 ++ line_of (drop (i + 1) ws)
@@ -135,6 +114,40 @@ word-last ws i some low high =
     let l : length ws - 1 < length ws = omega arith in
     let m : length ws ≤ suc (length ws - 1) = omega arith in
     rw (e, append-nil, drop-cons ws (length ws - 1) 0, drop_of_length-le ws {i = suc (length ws - 1)} m)
+
+-- what a word adds to the length of a line
+pub line_longer : (w : ℕ) (ws : List ℕ) → length (line_of (w ∷ ws)) ≡ length (decimal w) + 1 + length (line_of ws)
+unfolding line_of
+line_longer w [] = omega (arith, word_longer w 10)
+line_longer w (v ∷ ws) = length-append (number_text w 44) (line_of (v ∷ ws)) ∙ ap (λ n. n + length (line_of (v ∷ ws))) (word_longer w 44)
+
+pub line_next : (ws : List ℕ) (i : ℕ) → i < length ws
+    → length (line_of (drop i ws)) ≡ length (decimal (get_or ws i 0)) + 1 + length (line_of (drop (i + 1) ws))
+line_next ws i h = rw (drop-cons ws i 0 h) (line_longer (get_or ws i 0) (drop (suc i) ws) ∙ ap (λ k. length (decimal (get_or ws i 0)) + 1 + length (line_of (drop k ws))) (sym (add-one i)))
+
+-- none is left
+line_end : (ws : List ℕ) (i : ℕ) → length ws ≤ i → length (line_of (drop i ws)) ≡ 0
+unfolding line_of
+line_end ws i h = rw (drop_of_length-le ws {i = i} h)
+
+-- after i words the room has lost as much as the line
+abbrev pub Left : List ℕ → ℕ → ℕ → ℕ → Type 0
+Left ws room left i = room + length (line_of (drop i ws)) ≡ left + length (line_of ws)
+
+module _ (ws : List ℕ) (room left i : ℕ) (e : Left ws room left i) where
+  -- the next word is too long
+  pub line_over : {n : ℕ} → i < length ws → n ≡ length (decimal (get_or ws i 0)) → left < n + 1
+      → None ≡ cond (nat_le (length (line_of ws)) room) (Some (room - length (line_of ws))) None
+  line_over {n} h d l =
+      let over : room < length (line_of ws) = omega (arith, line_next ws i h) in
+      rw (lt-leb (length (line_of ws)) room over)
+
+  -- none is left
+  pub line_fits : length ws ≤ i → Some left ≡ cond (nat_le (length (line_of ws)) room) (Some (room - length (line_of ws))) None
+  line_fits h =
+      let rest : left ≡ room - length (line_of ws) = omega (arith, line_end ws i h) in
+      let fits : length (line_of ws) ≤ room = omega (arith, line_end ws i h) in
+      rw (le-leb (length (line_of ws)) room fits, rest)
 
 -- the lines of the records that words are
 abbrev pub records_text : List ℕ → List ℕ

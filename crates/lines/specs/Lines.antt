@@ -1,30 +1,15 @@
--- The text of a recorder's answer (01, "Execute, sameness, program"), as the codes of its characters.
+-- Lines of numbers, and the text of a recorder's answer (01, "Execute, sameness, program"), as the codes of their characters.
 -- Assumes nothing: these are definitions.
-use Rattle.std.specs.Prelude.{ℕ, zero, suc, ◌+◌, ◌/◌, ◌%◌, cond, List, [], ◌∷◌, ◌++◌, ltb, length, take, drop}
-use Prim.Native.Char.{code}
-use Prim.Native.String.{String, [] as end, ◌∷◌ as ◌then◌}
-
--- the codes of a string's characters
-abbrev pub codes : String → List ℕ
-codes end = []
-codes (c then s) = code c ∷ codes s
-
--- the decimal digits of n, the highest first and at most k of them
-unfoldable pub digits : ℕ → ℕ → List ℕ
-digits zero n = []
-digits (suc k) n = cond (ltb n 10) ((48 + n) ∷ []) (digits k (n / 10) ++ ((48 + n % 10) ∷ []))
-
--- the decimal digits of a number below 10 ^ 20, so of every u64
-abbrev pub decimal : ℕ → List ℕ
-decimal n = digits 20 n
+use Rattle.std.specs.Prelude.{ℕ, zero, suc, cond, List, [], ◌∷◌, ◌++◌, length, take, drop, nat_le, Option, None, Some}
+use Rattle.lines.specs.Text.{codes, decimal}
 
 -- the decimal digits of a number, and the character behind them
 unfoldable pub number_text : ℕ → ℕ → List ℕ
 number_text n mark = decimal n ++ (mark ∷ [])
 
--- a line: a comma (44) between the words, a line feed (10) at the end
+-- a line: a comma (44) between the words, a line feed (10) at the end; of no words, nothing
 unfoldable pub line_of : List ℕ → List ℕ
-line_of [] = 10 ∷ []
+line_of [] = []
 line_of (w ∷ []) = number_text w 10
 line_of (w ∷ v ∷ ws) = number_text w 44 ++ line_of (v ∷ ws)
 
@@ -44,3 +29,13 @@ refused_text number = codes "refused," ++ number_text number 10
 -- the text stands first in the buffer, and the rest is as before
 abbrev pub written : List ℕ → List ℕ → List ℕ
 written text out = text ++ drop (length text) out
+
+-- ---- a text that is put where there is room for it
+
+-- its length, or none where the buffer is too short
+abbrev pub fit_of : List ℕ → List ℕ → Option ℕ
+fit_of text out = cond (nat_le (length text) (length out)) (Some (length text)) None
+
+-- the buffer behind it, which a text too long leaves as it was
+abbrev pub fitted : List ℕ → List ℕ → List ℕ
+fitted text out = cond (nat_le (length text) (length out)) (written text out) out

@@ -1,4 +1,4 @@
-// A recorder's answer as text. Every line ends in a line feed:
+// Numbers as digits, lines of numbers, and a recorder's answer as text. Every line ends in a line feed:
 //
 //     2,2,5
 //     0,0,0,5,0,10,0,0,0,0,0,1,0,5,5,0,327680
@@ -7,9 +7,15 @@
 // a line live,records,output and a line of 17 words for each record; or the line refused,number.
 #![tactic(auto)]
 
-ghost use Rattle.std.specs.Prelude.{◌≡◌, ◌/◌, ◌≤◌, ◌<◌, min, length};
-ghost use Rattle.lines.specs.Lines.{decimal, number_text, line_of, lines_of, answer_text, refused_text, written};
-ghost use Rattle.lines.specs.Claims.{Decimal};
+mod digits;
+
+ghost use Rattle.std.specs.Prelude.{◌≡◌, ◌-◌, ◌/◌, ◌≤◌, min, length, cond, nat_le, Some, None};
+ghost use Rattle.lines.specs.Text.{decimal};
+ghost use Rattle.lines.specs.Lines.{number_text, line_of, lines_of, answer_text, refused_text, written, fit_of, fitted};
+ghost use Rattle.lines.specs.Claims.{Decimal, LineLaws};
+
+use digits::{decimal_length, put_decimal};
+pub use digits::{fill_decimal, fill_hex};
 
 // The most records of an answer.
 pub const RECORDS: usize = 256;
@@ -25,17 +31,6 @@ const RECORD_WORDS: usize = 17;
 
 // Each function below puts a text first in `out` and returns its length.
 
-// The decimal digits of a number. Not by std's Display: the recorder names nothing of std but its arithmetic.
-fn put_decimal(n: u64, out: &mut [u8]) -> usize
-    requires { length (decimal n) ≤ length out.old }
-    ensures length { result ≡ length (decimal n) }
-    ensures text { out.new ≡ written (decimal n) out.old }
-{
-    let front = if n < 10 { 0 } else { put_decimal(n / 10, out) };
-    out[front] = b'0' + (n % 10) as u8;
-    front + 1
-}
-
 // A number and the character behind it.
 fn put_number(n: u64, mark: u8, out: &mut [u8]) -> usize
     requires { length (number_text n mark) ≤ length out.old }
@@ -49,13 +44,12 @@ fn put_number(n: u64, mark: u8, out: &mut [u8]) -> usize
 
 // A line.
 fn put_line(words: &[u64], out: &mut [u8]) -> usize
-    requires some { 0 < length words.now }
-    requires room { length (line_of words.now) ≤ length out.old }
+    requires { length (line_of words.now) ≤ length out.old }
     ensures length { result ≡ length (line_of words.now) }
     ensures text { out.new ≡ written (line_of words.now) out.old }
 {
     let [front @ .., last] = words else {
-        unreachable!()
+        return 0;
     };
     let mut next = 0;
     for word in front {
@@ -103,7 +97,32 @@ pub fn put_refused(number: u64, out: &mut [u8; TEXT]) -> usize
     name.len() + put_number(number, b'\n', &mut out[name.len()..])
 }
 
+// What a line leaves of so much room, if it fits. Its length is not summed up: the sum could wrap.
+fn room_behind(words: &[u64], room: usize) -> Option<usize>
+    ensures { result ≡ cond (nat_le (length (line_of words.now)) room) (Some (room - length (line_of words.now))) None }
+{
+    let mut left = room;
+    for word in words {
+        left = left.checked_sub(decimal_length(*word) + 1)?;
+    }
+    Some(left)
+}
+
+// A line, put first in `out` if there is room for it; its length.
+pub fn fit_line(words: &[u64], out: &mut [u8]) -> Option<usize>
+    ensures length { result ≡ fit_of (line_of words.now) out.old }
+    ensures text { out.new ≡ fitted (line_of words.now) out.old }
+{
+    room_behind(words, out.len())?;
+    Some(put_line(words, out))
+}
+
 // What makes `decimal` the decimal digits (specs/Claims.antt). The function does nothing; its contract is the claim.
 pub fn decimal_laws()
     ensures { Decimal }
+{}
+
+// What makes `line_of` a line of its words.
+pub fn line_laws()
+    ensures { LineLaws }
 {}

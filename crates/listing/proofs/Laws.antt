@@ -1,6 +1,6 @@
 -- What a turn of each loop does, and the stores of a line against its text. Assumes nothing.
-use Rattle.std.proofs.Common.{◌≡◌, ℕ, zero, suc, ◌+◌, ◌-◌, ◌*◌, ◌/◌, ◌%◌, ◌^◌, ◌<◌, ◌≤◌, List, [], ◌∷◌, None, Some, Ok, Err, ◌++◌, length, drop, replicate, get_or, set, refl, not-suc-le-zero, add-zero, mul-le-mul_right, suc-mul, pow-suc, add-one, arith, le-ltb, lt-ltb, eq-eqb, ne_eqb}
-use native.Mathlib.Numerals.{unary_clauses}
+use Rattle.std.proofs.Common.{◌≡◌, ℕ, suc, ◌+◌, ◌-◌, ◌*◌, ◌^◌, ◌<◌, ◌≤◌, List, [], ◌∷◌, None, Some, Ok, Err, ◌++◌, length, take, drop, replicate, get_or, set, refl, ap, ◌∙◌, add-zero, mul-le-mul_right, suc-mul, pow-suc, add-one, arith, le-ltb, lt-ltb, eq-eqb, ne_eqb}
+use borrow.Rule.Slice.PartMut.{put_mid}
 use lib.ListN.{drop_of_length-le}
 use lib.Seq.{drop-cons}
 use native.Mathlib.Nat.{pow-le-pow_right}
@@ -11,17 +11,17 @@ use Rattle.expand.specs.declared.RomRow.{RomRow}
 use Rattle.expand.specs.declared.VirtualKind.{VirtualKind}
 use Rattle.expand.specs.declared.VirtualKind.TheVariants as kind
 use Rattle.listing.specs.declared.Fields.{Fields}
-use Rattle.listing.specs.Lines.{digit, last_digits, name_of, columns, line_of_inst, hex_value, number_from, compare_from}
+use Rattle.listing.specs.Lines.{name_of, columns, line_of_inst, hex_value, number_from, compare_from}
 use Rattle.listing.specs.RowLines.{kind_name, line_of_row}
+use Rattle.lines.specs.Text.{last_digits}
 use Rattle.listing.specs.Steps.{put_digits, put_fields, blank}
 
 -- ---- the lines of a word and of a row
 
--- a digit less to put
-pub digit-put : (line : List ℕ) (at i base v : ℕ) → 0 < i → put_digits (set line (at + (i - 1)) (digit (v % base))) at (i - 1) base (v / base) ≡ put_digits line at i base v
-unfolding put_digits
-digit-put line at zero base v h = absurd (not-suc-le-zero h)
-digit-put line at (suc i) base v h = simp unary_clauses
+-- a column of a line is filled
+pub column_filled : (at n base v : ℕ) {line line₁ column : List ℕ} → column ≡ last_digits base (length (take n (drop at line))) v → line ≡ line₁
+    → put_mid at n line column ≡ put_digits at n base v line₁
+column_filled at n base v {line} {line₁} e f = ap (put_mid at n line) e ∙ ap (put_digits at n base v) f
 
 data Seven : List ℕ → Type 0 where
   seven : (a b c d e f g : ℕ) → Seven (a ∷ b ∷ c ∷ d ∷ e ∷ f ∷ g ∷ [])
@@ -66,7 +66,7 @@ name_seven Ebreak = seven _ _ _ _ _ _ _
 name_seven Invalid = seven _ _ _ _ _ _ _
 
 kind_seven : (k : VirtualKind) → Seven (kind_name k)
-unfolding kind_name
+unfolding kind_name last_digits
 kind_seven kind.Alu = seven _ _ _ _ _ _ _
 kind_seven (kind.ShiftStage stage) = seven _ _ _ _ _ _ _
 kind_seven kind.Load = seven _ _ _ _ _ _ _
@@ -82,23 +82,23 @@ fields_of raw rd rs1 rs2 funct3 imm = record { raw = raw; rd = rd; rs1 = rs1; rs
 -- the columns are disjoint, so the stores and the text are the same 48 characters
 module _ (raw rd rs1 rs2 funct3 imm v : ℕ) where
   word_filled : {text : List ℕ} → Seven text
-      → put_digits (put_fields (blank text 32) (fields_of raw rd rs1 rs2 funct3 imm)) 28 2 16 v ≡ columns text (last_digits 16 2 v) raw rd rs1 rs2 funct3 imm
-  unfolding columns put_digits put_fields blank
+      → put_digits 28 2 16 v (put_fields (blank text 32) (fields_of raw rd rs1 rs2 funct3 imm)) ≡ columns text (last_digits 16 2 v) raw rd rs1 rs2 funct3 imm
+  unfolding columns last_digits put_fields blank
   word_filled (seven a b c d e f g) = refl
 
   row_filled : {text : List ℕ} → Seven text
-      → put_digits (put_fields (blank text 43) (fields_of raw rd rs1 rs2 funct3 imm)) 29 1 10 v ≡ columns text (43 ∷ last_digits 10 1 v) raw rd rs1 rs2 funct3 imm
-  unfolding columns put_digits put_fields blank
+      → put_digits 29 1 10 v (put_fields (blank text 43) (fields_of raw rd rs1 rs2 funct3 imm)) ≡ columns text (43 ∷ last_digits 10 1 v) raw rd rs1 rs2 funct3 imm
+  unfolding columns last_digits put_fields blank
   row_filled (seven a b c d e f g) = refl
 
 pub line_made : (d : Inst) {name a b e : List ℕ} → name ≡ name_of d.opcode → a ≡ blank name 32
     → b ≡ put_fields a (fields_of d.raw d.rd d.rs1 d.rs2 d.funct3 d.imm)
-    → e ≡ put_digits b 28 2 16 d.funct7 → e ≡ line_of_inst d
+    → e ≡ put_digits 28 2 16 d.funct7 b → e ≡ line_of_inst d
 line_made d n p q r = cc (word_filled d.raw d.rd d.rs1 d.rs2 d.funct3 d.imm d.funct7 (name_seven d.opcode))
 
 pub row_made : (r : RomRow) (k : ℕ) {name a b e : List ℕ} → name ≡ kind_name r.kind → a ≡ blank name 43
     → b ≡ put_fields a (fields_of r.raw r.rd r.rs1 r.rs2 r.funct3 r.imm)
-    → e ≡ put_digits b 29 1 10 k → e ≡ line_of_row r k
+    → e ≡ put_digits 29 1 10 k b → e ≡ line_of_row r k
 row_made r k n p q s = cc (row_filled r.raw r.rd r.rs1 r.rs2 r.funct3 r.imm k (kind_seven r.kind))
 
 -- ---- the numbers of a line

@@ -1,4 +1,3 @@
-pub mod Text
 pub mod Lines
 pub mod RowLines
 pub mod Steps

@@ -1,24 +1,15 @@
 -- A listing line, and what a line with a stored answer comes to. Assumes nothing.
-use Rattle.std.specs.Prelude.{ℕ, zero, suc, ◌+◌, ◌-◌, ◌*◌, ◌/◌, ◌%◌, ◌^◌, Bool, cond, ◌||◌, List, [], ◌∷◌, ◌++◌, ◌==◌, nat_le, nat_lt, slice_index, slice_range, Option, None, Some, Result, Ok, Err}
+use Rattle.std.specs.Prelude.{ℕ, zero, suc, ◌+◌, ◌-◌, ◌*◌, ◌^◌, Bool, cond, ◌||◌, List, [], ◌∷◌, ◌++◌, ◌==◌, nat_le, nat_lt, slice_index, slice_range, Option, None, Some, Result, Ok, Err}
 use Rattle.std.specs.Option.{option_and_then}
 use Rattle.decode.specs.Decode.{decode_of}
 use Rattle.decode.specs.declared.Inst.{Inst}
 use Rattle.decode.specs.declared.Opcode.{Opcode}
 use Rattle.decode.specs.declared.Opcode.TheVariants.{Lui, Auipc, Jal, Jalr, Branch, Load, Store, OpImm, Op, OpImm32, Op32, Fence, Ecall, Ebreak, Invalid}
-use Rattle.listing.specs.Text.{codes}
+use Rattle.lines.specs.Text.{codes, last_digits}
 use Rattle.listing.specs.declared.Wrong.{Wrong}
 use Rattle.listing.specs.declared.Wrong.TheVariants.{NoLine, Differs}
 
 -- ---- the line of a word
-
--- the character of a digit below 16: `0` to `9`, then `a` to `f`
-abbrev pub digit : ℕ → ℕ
-digit d = cond (nat_lt d 10) (48 + d) (87 + d)
-
--- the last n digits of v in the base, the highest first
-abbrev pub last_digits : ℕ → ℕ → ℕ → List ℕ
-last_digits base zero v = []
-last_digits base (suc n) v = last_digits base n (v / base) ++ (digit (v % base) ∷ [])
 
 -- the name of a class, in seven characters
 unfoldable pub name_of : Opcode → List ℕ

@@ -4,8 +4,8 @@ use Rattle.expand.specs.Rows.{row_of}
 use Rattle.expand.specs.declared.RomRow.{RomRow}
 use Rattle.expand.specs.declared.VirtualKind.{VirtualKind}
 use Rattle.expand.specs.declared.VirtualKind.TheVariants as kind
-use Rattle.listing.specs.Text.{codes}
-use Rattle.listing.specs.Lines.{last_digits, columns, number_from, parsed_word, compare_of}
+use Rattle.lines.specs.Text.{codes, last_digits}
+use Rattle.listing.specs.Lines.{columns, number_from, parsed_word, compare_of}
 use Rattle.listing.specs.declared.rows.Head.{Head}
 use Rattle.listing.specs.declared.rows.Head.TheVariants.{First, Later, NoLine}
 use Rattle.listing.specs.declared.rows.Sizes.{Sizes}

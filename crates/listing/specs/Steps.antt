@@ -1,23 +1,21 @@
--- What the functions that fill a line do, store by store. Assumes nothing.
-use Rattle.std.specs.Prelude.{ℕ, zero, suc, ◌+◌, ◌/◌, ◌%◌, List, [], ◌∷◌, ◌++◌, replicate, slice_set}
-use Rattle.listing.specs.Lines.{digit}
+-- What the functions that fill a line do, column by column. Assumes nothing.
+use Rattle.std.specs.Prelude.{ℕ, List, [], ◌∷◌, ◌++◌, length, take, drop, replicate}
+use Rattle.lines.specs.Text.{last_digits}
 use Rattle.listing.specs.declared.Fields.{Fields}
 
--- the last n digits of v, put from `at` on, the lowest first
-unfoldable pub put_digits : List ℕ → ℕ → ℕ → ℕ → ℕ → List ℕ
-put_digits line at zero base v = line
-put_digits line at (suc n) base v = put_digits (slice_set line (at + n) (digit (v % base))) at n base (v / base)
+-- the last digits of v in the n places from `at` on
+abbrev pub put_digits : ℕ → ℕ → ℕ → ℕ → List ℕ → List ℕ
+put_digits at n base v line = take at line ++ (last_digits base (length (take n (drop at line))) v ++ drop n (drop at line))
 
 -- the fields that every line has, put at their columns
 unfoldable pub put_fields : List ℕ → Fields → List ℕ
 put_fields line fields =
-    put_digits (put_digits (put_digits (put_digits (put_digits (put_digits line
-    0 8 16 fields.raw)
-    17 2 10 fields.rd)
-    20 2 10 fields.rs1)
-    23 2 10 fields.rs2)
-    26 1 10 fields.funct3)
-    31 16 16 fields.imm
+    put_digits 31 16 16 fields.imm
+    (put_digits 26 1 10 fields.funct3
+    (put_digits 23 2 10 fields.rs2
+    (put_digits 20 2 10 fields.rs1
+    (put_digits 17 2 10 fields.rd
+    (put_digits 0 8 16 fields.raw line)))))
 
 -- a line before its numbers are put in: a text of seven characters from 9, and a mark at 28
 unfoldable pub blank : List ℕ → ℕ → List ℕ

@@ -12,10 +12,11 @@
 mod rows;
 
 ghost use Rattle.std.specs.Prelude.{◌≡◌, ◌+◌, ◌^◌, ◌<◌, ◌≤◌, IfSome, length, slice_index};
-ghost use Rattle.listing.specs.Lines.{digit, name_of, word_line_of, hex_value, number_from, parsed_word, word_le, compare_of, judge_of};
-ghost use Rattle.listing.specs.Steps.{put_digits, put_fields, blank};
+ghost use Rattle.listing.specs.Lines.{name_of, word_line_of, hex_value, number_from, parsed_word, word_le, compare_of, judge_of};
+ghost use Rattle.listing.specs.Steps.{put_fields, blank};
 
 use decode::{Inst, Opcode};
+use lines::{fill_decimal, fill_hex};
 pub use rows::{Head, Sizes, compare_row, head_of, program_counts, row_line_of};
 
 // Why a line with a stored answer is wrong: the place where it differs and the word of the line, or it
@@ -24,27 +25,6 @@ pub use rows::{Head, Sizes, compare_row, head_of, program_counts, row_line_of};
 pub enum Wrong {
     NoLine,
     Differs { at: usize, raw: u32 },
-}
-
-// The character of a digit.
-fn digit_char(d: u64) -> u8
-    requires { d < 16 }
-    ensures { result ≡ digit d }
-{
-    if d < 10 { 48 + d as u8 } else { 87 + d as u8 }
-}
-
-// Puts the last `n` digits of `v` at the places from `at` on, the lowest digit first. Not by `write!`,
-// since no contract of std says which bytes that leaves in a `&mut [u8]`.
-fn put_digits(line: &mut [u8; 48], at: usize, n: usize, base: u64, v: u64)
-    requires { (at + n ≤ 48) × (0 < base) × (base ≤ 16) }
-    ensures { line.new ≡ put_digits line.old at n base v }
-{
-    let mut rest = v;
-    for i in (0..n).rev() {
-        line[at + i] = digit_char(rest % base);
-        rest /= base;
-    }
 }
 
 // The fields that the lines of a word and of a row have in common.
@@ -62,12 +42,12 @@ struct Fields {
 fn put_fields(line: &mut [u8; 48], fields: Fields)
     ensures { line.new ≡ put_fields line.old fields }
 {
-    put_digits(line, 0, 8, 16, fields.raw as u64);
-    put_digits(line, 17, 2, 10, fields.rd as u64);
-    put_digits(line, 20, 2, 10, fields.rs1 as u64);
-    put_digits(line, 23, 2, 10, fields.rs2 as u64);
-    put_digits(line, 26, 1, 10, fields.funct3 as u64);
-    put_digits(line, 31, 16, 16, fields.imm);
+    fill_hex(fields.raw as u64, &mut line[..8]);
+    fill_decimal(fields.rd as u64, &mut line[17..19]);
+    fill_decimal(fields.rs1 as u64, &mut line[20..22]);
+    fill_decimal(fields.rs2 as u64, &mut line[23..25]);
+    fill_decimal(fields.funct3 as u64, &mut line[26..27]);
+    fill_hex(fields.imm, &mut line[31..47]);
 }
 
 // A line before its numbers are put in: a text of seven characters, and a mark at 28.
@@ -130,7 +110,7 @@ pub fn word_line_of(raw: u32) -> [u8; 48]
     };
     let mut line = blank(&name_of(opcode), b' ');
     put_fields(&mut line, fields);
-    put_digits(&mut line, 28, 2, 16, funct7 as u64);
+    fill_hex(funct7 as u64, &mut line[28..30]);
     line
 }
 

@@ -9,8 +9,9 @@ ghost use Rattle.std.specs.Prelude.{◌≡◌};
 ghost use Rattle.listing.specs.RowLines.{kind_name, row_line_of, head_of, program_counts};
 ghost use Rattle.listing.specs.Lines.{compare_of};
 
-use crate::{Fields, blank, compare, digit_char, number_of, parsed_word, put_digits, put_fields};
+use crate::{Fields, blank, compare, number_of, parsed_word, put_fields};
 use expand::{RomRow, VirtualKind};
+use lines::fill_decimal;
 
 // What a row line says of its instruction: the word of it, where the row is its first. An enum of
 // three, since an `Option` in an `Option` would name none of the cases.
@@ -37,7 +38,7 @@ fn kind_name(kind: VirtualKind) -> [u8; 7]
         VirtualKind::Alu => *b"Alu    ",
         VirtualKind::ShiftStage { stage } => {
             let mut name = *b"Shift  ";
-            name[6] = digit_char(stage as u64 % 10);
+            fill_decimal(stage as u64, &mut name[6..]);
             name
         }
         VirtualKind::Load => *b"Load   ",
@@ -72,7 +73,7 @@ pub fn row_line_of(word: u64, distance: usize) -> [u8; 48]
     };
     let mut line = blank(&kind_name(kind), b'+');
     put_fields(&mut line, fields);
-    put_digits(&mut line, 29, 1, 10, distance as u64);
+    fill_decimal(distance as u64, &mut line[29..30]);
     line
 }
 

@@ -9,7 +9,8 @@ use Rattle.interp.specs.Machine.{loaded, start_of, words, flat}
 use Rattle.interp.specs.Cycle.{alu_flags, alu_arm, stage_effect, stage_arm, load_flag, load_arm, store_arm, branch_arm, upper_arm, jump_arm, system_arm, arm_of, padding_arm, record_of, scratched, regs_after, ram_after, commit, step_at, live, frozen_at, padding}
 use Rattle.interp.specs.Calls.{recorded, end}
 use Rattle.interp.specs.Execute.{live_count_of, doubled, executed, execution_for, execute_of}
-use Rattle.lines.specs.Lines.{digits, number_text, line_of, lines_of, answer_text}
+use Rattle.lines.specs.Text.{digits}
+use Rattle.lines.specs.Lines.{number_text, line_of, lines_of, answer_text}
 use Rattle.trace_answer.specs.Trace.{word_at, words_from, inputs_from, malformed, told_of, trace_of}
 use Rattle.edge_table.specs.Edges.{Edges}
 use Rattle.edge_table.proofs.edge_table.Goals as goal

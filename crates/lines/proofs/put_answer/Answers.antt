@@ -12,10 +12,10 @@ use Rattle.lines.proofs.put_answer.Goals.{After-min-records, After-put_line-firs
 room : (c : After-min-records) → length (answer_text c.args.live c.min-records.result c.args.output c.args.words.now) ≤ length c.args.out.now
 room c = omega (arith, answer_fits c.args.live c.min-records.result c.args.output c.args.words.now (omega arith))
 
-pub put_line-first-requires-clause-room : goal.put_line-first-requires-clause-room
+pub put_line-first-requires : goal.put_line-first-requires
 unfolding answer_text
-put_line-first-requires-clause-room c =
-    let d = (goal.at.put_line-first-requires-clause-room c).After-min-records in
+put_line-first-requires c =
+    let d = (goal.at.put_line-first-requires c).After-min-records in
     let a = c.args in
     omega (arith, room d, length-append (line_of (a.live ∷ c.min-records.result ∷ a.output ∷ [])) (lines_of c.min-records.result a.words.now))
 

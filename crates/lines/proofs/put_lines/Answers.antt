@@ -8,8 +8,8 @@ use Rattle.lines.specs.Lines.{line_of}
 use Rattle.lines.proofs.Laws.{part_fits, part_put, all_put, record_next, record-none}
 use Rattle.lines.proofs.put_lines.Goals as goal
 
-pub put_line-next-requires-clause-room : goal.put_line-next-requires-clause-room
-put_line-next-requires-clause-room c =
+pub put_line-next-requires : goal.put_line-next-requires
+put_line-next-requires c =
     let l = c.loop-record in
     let step = c.in-Some.ensures.steps.1 in
     part_fits (line_of c.in-Some.record.now) _ l.invariant.put (record_next _ c.in-Some.record.now _ step.0 (step.1 ∙ l.invariant.size)) c.requires _ (omega arith)

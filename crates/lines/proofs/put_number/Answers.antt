@@ -1,7 +1,8 @@
 -- `lines::put_number` meets its contract. Assumes nothing.
 use mathlib.Core.Path.{refl}
 use native.Mathlib.Omega.{arith}
-use Rattle.lines.specs.Lines.{decimal, number_text}
+use Rattle.lines.specs.Text.{decimal}
+use Rattle.lines.specs.Lines.{number_text}
 use Rattle.lines.proofs.Laws.{Ended, ended, word_longer}
 use Rattle.lines.proofs.put_number.Goals as goal
 use Rattle.lines.proofs.put_number.Goals.{After-put_decimal-digits}

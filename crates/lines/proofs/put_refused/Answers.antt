@@ -5,7 +5,8 @@ use Prim.Native.Nat.{◌≤◌}
 use native.Mathlib.Omega.{arith}
 use borrow.Rule.Slice.PartMut.{post_of}
 use lib.ListN.{length}
-use Rattle.lines.specs.Lines.{codes, number_text, refused_text}
+use Rattle.lines.specs.Text.{codes}
+use Rattle.lines.specs.Lines.{number_text, refused_text}
 use Rattle.lines.proofs.Laws.{Put, first_put, part_fits, part_put, all_put, refused_fits}
 use Rattle.lines.proofs.put_refused.Goals as goal
 use Rattle.lines.proofs.put_refused.Goals.{After-copy_from_slice}

@@ -1,8 +1,0 @@
-use Rattle.std.proofs.Common.{le-ltb, lt-ltb}
-use Rattle.listing.proofs.digit_char.Goals as goal
-
-pub returns-then-d-lt10 : goal.returns-then-d-lt10
-returns-then-d-lt10 c = simp (lt-ltb _ _ c.if-d-lt10.true)
-
-pub returns-else-d-lt10 : goal.returns-else-d-lt10
-returns-else-d-lt10 c = simp (le-ltb _ _ c.if-d-lt10.false)
