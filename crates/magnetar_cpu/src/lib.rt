@@ -1,9 +1,10 @@
-// The C interface over plain words. A slice is a pointer and a length, an array a pointer: not null and aligned, also
+// The C interface over plain words and bytes. A slice is a pointer and a length, an array a pointer: not null and aligned, also
 // where the length is 0; what a call writes overlaps nothing else lent to it. Where a call can be refused, 0 is accepted and any other
 // number a refusal of the papers, after which nothing behind any pointer has changed.
 #![tactic(auto)]
 
 mod index;
+mod report;
 
 ghost use Rattle.std.specs.Prelude.{◌≡◌, ◌+◌, ◌≤◌, length, drop};
 ghost use Rattle.std.proofs.Math.Seq.{paste};
