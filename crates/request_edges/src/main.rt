@@ -2,6 +2,7 @@
 // number that a call returned and what was compared, with WRONG in front of what differs.
 #![tactic(auto)]
 
+mod figures;
 mod index;
 
 use report::Console;
@@ -9,4 +10,5 @@ use report::Console;
 fn main(rt: HostRuntime) {
     let to = Console::of(&rt);
     index::run(to);
+    figures::run(to);
 }
