@@ -6,7 +6,8 @@
  * cycles on it and write a record of 17 words for each (magnetar_segment,
  * magnetar_padding). magnetar_execute does all of a run in one call. An index
  * says which record of a log was the latest to write each register and RAM word
- * (magnetar_index_build, magnetar_index_add).
+ * (magnetar_index_build, magnetar_index_add). A report is a line of figures over
+ * many runs (magnetar_report).
  *
  * Rules for pointers:
  * - A slice is a pointer and a length, counted in elements. All the elements
@@ -16,19 +17,19 @@
  *   and so may data() of an empty std::vector, also after reserve(): where there
  *   is nothing to lend, give the address of a variable of that type.
  * - Behind every cursor pointer are MAGNETAR_CURSOR_WORDS words; behind count,
- *   live and record_count is one.
+ *   record_count, live of magnetar_execute and length of magnetar_report is one.
  * - What a call writes overlaps nothing else that it is lent. Places that it
  *   only reads may overlap.
- * - Words that are only written need no content before the call.
+ * - What is only written needs no content before the call.
  *
  * Rules for answers, but for magnetar_is_expansion, magnetar_same and
  * magnetar_cursor_words, which answer as they say:
  * - MAGNETAR_ACCEPTED, or the number of a refusal. If several refusals are met,
  *   the answer is the one that the call's comment names first. That is the lowest
- *   number, but in the calls of an index.
+ *   number, but in the calls of an index and in magnetar_report.
  * - A refused call has changed nothing behind any pointer.
- * - An accepted call changes only what its comment names. Words of a buffer
- *   past those are left as they were.
+ * - An accepted call changes only what its comment names. What a buffer holds past
+ *   that is left as it was.
  *
  * Sums, products and comparisons are exact: no length or number makes a test
  * wrap around. The library keeps nothing from one call to the next.
@@ -83,6 +84,13 @@ extern "C" {
  * MAGNETAR_RAM_WORDS or more.
  */
 #define MAGNETAR_OUT_OF_RANGE 8
+/*
+ * The lists of a report are of unequal length, or have no runs or more than
+ * MAGNETAR_MAX_RUNS.
+ */
+#define MAGNETAR_BAD_RUNS 9
+/* A count in a list of a report is over MAGNETAR_MAX_COUNT. */
+#define MAGNETAR_BAD_COUNT 10
 
 /* ---- limits */
 
@@ -95,6 +103,10 @@ extern "C" {
 #define MAGNETAR_MAX_EXECUTE_CYCLES ((uint64_t)1 << 32)
 /* Of the records that an index counts, `before` and those of the log: 2^62. */
 #define MAGNETAR_MAX_RECORDS ((uint64_t)1 << 62)
+/* Of the runs of a report. */
+#define MAGNETAR_MAX_RUNS 65536
+/* Of each count in the lists of a report: 2^32. */
+#define MAGNETAR_MAX_COUNT ((uint64_t)1 << 32)
 /* The most rows that one program word gives. */
 #define MAGNETAR_ROWS_PER_WORD 6
 
@@ -178,6 +190,11 @@ extern "C" {
 #define MAGNETAR_INDEX_PLACES 320
 /* What a place holds that no record wrote. Any other number is a position, also 0. */
 #define MAGNETAR_NONE UINT64_MAX
+
+/* ---- the run report */
+
+/* The bytes of the longest line, with its line feed. */
+#define MAGNETAR_REPORT_BYTES 51
 
 /* ---- functions */
 
@@ -353,6 +370,31 @@ uint64_t magnetar_index_build(const uint64_t *log, size_t log_len,
 MAGNETAR_MUST_USE
 uint64_t magnetar_index_add(const uint64_t *log, size_t log_len, uint64_t before,
                             uint64_t *index, size_t index_len);
+
+/* ---- function of the run report */
+
+/*
+ * Writes a line of four figures over many runs, of which `live` holds the live counts
+ * and `records` the record counts: how many runs, the sum of `live`, the sum of
+ * `records`, and the mean of `live` in hundredths. They are decimal whole numbers
+ * without leading zeros, parted by commas; a line feed ends the line, and no zero byte
+ * follows. Of 1, 2, 2 and 2, 2, 2 it is "3,5,6,167\n", whose 167 stands for 1.67.
+ *
+ * The mean is 100 times the sum of `live`, divided by the runs, to the nearest whole
+ * number, a half going up: one live cycle in eight runs is 12.5 hundredths and gives
+ * 13. The other figures are exact. That runs had these counts is not tested.
+ *
+ * Refused, in this order: 9 if live_len is not records_len, is 0 or is over
+ * MAGNETAR_MAX_RUNS; 10 if any count in either list is over MAGNETAR_MAX_COUNT (none
+ * that magnetar_execute writes is); 6 if line_len is below the bytes of this line.
+ * MAGNETAR_REPORT_BYTES always suffice.
+ *
+ * Written: the line, from line[0] on; how many bytes it has, *length.
+ */
+MAGNETAR_MUST_USE
+uint64_t magnetar_report(const uint64_t *live, size_t live_len,
+                         const uint64_t *records, size_t records_len,
+                         uint8_t *line, size_t line_len, uint64_t *length);
 
 #ifdef __cplusplus
 }

@@ -56,7 +56,8 @@
 //!
 //! Of the records that were written, a [`LastWriterIndex`] says for each register and
 //! RAM word which was the latest to write it; calls with an index have refusals of
-//! their own, [`IndexRefusal`].
+//! their own, [`IndexRefusal`]. A [`Report`] is a line of figures over many runs, of
+//! their live counts and record counts; its refusals are [`ReportRefusal`].
 //!
 //! Library and crate must be of one version: with a library whose cursor has
 //! another length ([`cursor_words`]) the functions that take or give a cursor
@@ -88,6 +89,7 @@ mod flags;
 mod index;
 mod record;
 mod refusal;
+mod report;
 mod stop;
 #[allow(unsafe_code)]
 pub mod words;
@@ -105,6 +107,7 @@ pub use index::{
 };
 pub use record::{records, Record, Records, RECORD_WORDS};
 pub use refusal::{NotARefusal, Refusal};
+pub use report::{report, Report, ReportRefusal, MAX_COUNT, MAX_RUNS, REPORT_BYTES};
 pub use stop::Stop;
 
 /// Runs the example of README.md among the tests.

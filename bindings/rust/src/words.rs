@@ -1,9 +1,9 @@
-//! The library's own form: what is lent are words, and the answer is a number.
+//! The library's own form: what is lent are words and bytes, and the answer is a number.
 //!
 //! 0 is accepted; any other answer is the number of a [`Refusal`](crate::Refusal),
-//! of an index that of an [`IndexRefusal`](crate::IndexRefusal), and then no word
-//! has changed. The functions of the crate's root are made of these and are easier
-//! to use.
+//! of an index that of an [`IndexRefusal`](crate::IndexRefusal), of a report that of a
+//! [`ReportRefusal`](crate::ReportRefusal), and then no word and no byte has changed.
+//! The functions of the crate's root are made of these and are easier to use.
 //!
 //! All `unsafe` code of the crate is here. What the library asks of its caller
 //! is what Rust asks of slices and arrays: pointers that are not null and
@@ -68,6 +68,15 @@ unsafe extern "C" {
         before: u64,
         index: *mut u64,
         index_len: usize,
+    ) -> u64;
+    fn magnetar_report(
+        live: *const u64,
+        live_len: usize,
+        records: *const u64,
+        records_len: usize,
+        line: *mut u8,
+        line_len: usize,
+        length: *mut u64,
     ) -> u64;
     safe fn magnetar_cursor_words() -> u64;
 }
@@ -230,6 +239,23 @@ pub fn index_add(log: &[u64], before: u64, index: &mut [u64]) -> u64 {
             before,
             index.as_mut_ptr(),
             index.len(),
+        )
+    }
+}
+
+/// [`report`](crate::report()): the line's length in bytes goes to `length`.
+pub fn report(live: &[u64], records: &[u64], line: &mut [u8], length: &mut u64) -> u64 {
+    // SAFETY: pointers and lengths are those of slices and of a word, all
+    // borrowed until the call returns, those written to by nothing else.
+    unsafe {
+        magnetar_report(
+            live.as_ptr(),
+            live.len(),
+            records.as_ptr(),
+            records.len(),
+            line.as_mut_ptr(),
+            line.len(),
+            length,
         )
     }
 }

@@ -87,3 +87,12 @@ uint64_t magnetar_index_add(const uint64_t *log, size_t log_len, uint64_t before
     (void)before;
     return magnetar_index_build(log, log_len, index, index_len);
 }
+
+uint64_t magnetar_report(const uint64_t *live, size_t live_len,
+                         const uint64_t *records, size_t records_len,
+                         uint8_t *line, size_t line_len, uint64_t *length)
+{
+    (void)live, (void)live_len, (void)records, (void)records_len;
+    (void)line, (void)line_len, (void)length;
+    return MAGNETAR_BAD_RUNS;
+}

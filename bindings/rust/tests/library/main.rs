@@ -8,6 +8,7 @@ mod expanding;
 mod guarded;
 mod indexing;
 mod names;
+mod reporting;
 mod running;
 mod same;
 mod stopping;

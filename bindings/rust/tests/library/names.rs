@@ -1,8 +1,9 @@
 //! Refusals, limits, places and flags have the names and numbers of the C header.
 
-use magnetar_cpu::{Cursor, IndexRefusal, Record, Refusal, RECORD_WORDS};
-use magnetar_cpu::{INDEX_PLACES, MAX_EXECUTE_CYCLES, MAX_PROGRAM_WORDS, MAX_RECORDS, MAX_ROWS};
-use magnetar_cpu::{MAX_TOTAL_CYCLES, NONE, ROWS_PER_WORD};
+use magnetar_cpu::{Cursor, IndexRefusal, Record, Refusal, ReportRefusal};
+use magnetar_cpu::{INDEX_PLACES, NONE, RECORD_WORDS, REPORT_BYTES, ROWS_PER_WORD};
+use magnetar_cpu::{MAX_COUNT, MAX_EXECUTE_CYCLES, MAX_PROGRAM_WORDS, MAX_RECORDS};
+use magnetar_cpu::{MAX_ROWS, MAX_RUNS, MAX_TOTAL_CYCLES};
 use std::fmt::Debug;
 
 const HEADER: &str = include_str!("../../../../include/magnetar_cpu.h");
@@ -38,6 +39,9 @@ fn refusals_have_the_names_of_the_header() {
     for refusal in IndexRefusal::ALL {
         assert_refusal(refusal, refusal.number());
     }
+    for refusal in ReportRefusal::ALL {
+        assert_refusal(refusal, refusal.number());
+    }
 }
 
 #[test]
@@ -45,10 +49,12 @@ fn limits_have_the_names_of_the_header() {
     assert_defined("MAX_PROGRAM_WORDS", &MAX_PROGRAM_WORDS.to_string());
     assert_defined("MAX_ROWS", &MAX_ROWS.to_string());
     assert_defined("ROWS_PER_WORD", &ROWS_PER_WORD.to_string());
+    assert_defined("MAX_RUNS", &MAX_RUNS.to_string());
     for (name, limit) in [
         ("MAX_TOTAL_CYCLES", MAX_TOTAL_CYCLES),
         ("MAX_EXECUTE_CYCLES", MAX_EXECUTE_CYCLES),
         ("MAX_RECORDS", MAX_RECORDS),
+        ("MAX_COUNT", MAX_COUNT),
     ] {
         assert!(limit.is_power_of_two());
         assert_defined(name, &format!("((uint64_t)1 << {})", limit.ilog2()));
@@ -80,6 +86,7 @@ fn places_have_the_names_of_the_header() {
     assert_eq!(INDEX_PLACES, Cursor::REGS.len() + Cursor::RAM.len());
     assert_defined("NONE", "UINT64_MAX");
     assert_eq!(NONE, u64::MAX);
+    assert_defined("REPORT_BYTES", &REPORT_BYTES.to_string());
 }
 
 #[test]
