@@ -135,17 +135,22 @@ uint64_t *lend_room(const char *name, const uint64_t *words, size_t n)
     return (uint64_t *)lend(name, words, n, sizeof *words, PROT_READ | PROT_WRITE)->lent;
 }
 
-void expect(const uint64_t *lent, const uint64_t *words, size_t n)
+uint8_t *lend_bytes(const char *name, size_t n)
+{
+    return lend(name, NULL, n, 1, PROT_READ | PROT_WRITE)->lent;
+}
+
+void expect(const void *lent, const void *content, size_t n)
 {
     if (n == 0)
         return;
     for (size_t i = 0; i < used; i++) {
         if (slots[i].lent == (const unsigned char *)lent) {
-            memcpy(slots[i].wanted + (slots[i].lent - slots[i].pages), words, n * sizeof *words);
+            memcpy(slots[i].wanted + (slots[i].lent - slots[i].pages), content, n * slots[i].unit);
             return;
         }
     }
-    fprintf(stderr, "%s: words are expected where nothing was lent\n", title);
+    fprintf(stderr, "%s: content is expected where nothing was lent\n", title);
     exit(2);
 }
 
@@ -162,6 +167,8 @@ static uint64_t element(const unsigned char *at, size_t unit)
 {
     uint32_t word;
     uint64_t doubleword;
+    if (unit == 1)
+        return *at;
     if (unit == sizeof word) {
         memcpy(&word, at, unit);
         return word;

@@ -26,8 +26,11 @@ const uint64_t *lend_words(const char *name, const uint64_t *words, size_t n);
 /* Lends n words with this content, or, where `words` is null, with a pattern. */
 uint64_t *lend_room(const char *name, const uint64_t *words, size_t n);
 
-/* Of the words lent, the first n must be these when the case ends; all others must be as they were. */
-void expect(const uint64_t *lent, const uint64_t *words, size_t n);
+/* Lends n bytes with a pattern. */
+uint8_t *lend_bytes(const char *name, size_t n);
+
+/* Of the elements lent, the first n must be these when the case ends; all others must be as they were. */
+void expect(const void *lent, const void *content, size_t n);
 
 /* One check. */
 void check(const char *place, uint64_t found, uint64_t wanted);

@@ -1,4 +1,4 @@
-/* The longest programs, the most rows and the most cycles. */
+/* The longest programs, the most rows, the most cycles and the most runs. */
 #define _DEFAULT_SOURCE
 #include "cases.h"
 #include "rule.h"
@@ -158,6 +158,33 @@ static void most_cycles(void)
     check("words past the records that changed", others(records + 68, 4096, 0, 0), 0);
 }
 
+static void report_case(const char *text, const uint64_t *counts, size_t runs, size_t room, uint64_t answer)
+{
+    uint64_t bytes = MAGNETAR_REPORT_BYTES;
+    begin(AT_LAST_WORD, "magnetar_report", text);
+    uint8_t *line = lend_bytes("line", room);
+    uint64_t *length = lend_room("length", NULL, 1);
+    if (answer == MAGNETAR_ACCEPTED) {
+        expect(line, "65536,281474976710656,281474976710656,429496729600\n", bytes);
+        expect(length, &bytes, 1);
+    }
+    end(magnetar_report(counts, runs, counts, runs, line, room, length), answer);
+}
+
+/* The largest counts of the most runs, so the longest line; and one run more. One list is lent as both. */
+static void most_runs(void)
+{
+    size_t runs = MAGNETAR_MAX_RUNS + 1;
+    uint64_t *counts = (uint64_t *)needed(end_of_memory(8 * runs)) - runs;
+    for (size_t i = 0; i < runs; i++)
+        counts[i] = MAGNETAR_MAX_COUNT;
+    report_case("the most runs", counts + 1, MAGNETAR_MAX_RUNS, MAGNETAR_REPORT_BYTES, 0);
+    report_case("the most runs, one byte short", counts + 1, MAGNETAR_MAX_RUNS, MAGNETAR_REPORT_BYTES - 1, 6);
+    report_case("one run more than the most", counts, runs, MAGNETAR_REPORT_BYTES, 9);
+    counts[0]++;
+    report_case("9, 10 and 6 are met", counts, runs, 0, 9);
+}
+
 void limit_cases(void)
 {
     /* Room for one row more than a call takes: the first place is for that row. */
@@ -172,4 +199,5 @@ void limit_cases(void)
     rows[0] = odd_rows[0];
     too_many_rows(rows, "2 to 6 are met", MOST, MOST, 0);
     most_cycles();
+    most_runs();
 }

@@ -16,8 +16,8 @@
 #include <string.h>
 
 /* The checks when this was written; fewer mean that cases were lost. Those of 2^32 cycles are not always run. */
-#define SMALL_CHECKS 23395
-#define LIMIT_CHECKS 54
+#define SMALL_CHECKS 24176
+#define LIMIT_CHECKS 66
 
 int main(int argc, char **argv)
 {
@@ -33,6 +33,7 @@ int main(int argc, char **argv)
         execute_cases(placement);
         same_cases(placement);
         index_cases(placement);
+        report_cases(placement);
     }
     name_cases();
     if (!is_small)

@@ -1,6 +1,11 @@
-/* The header's names: flags, the words that the rule leaves 0, the words of a cursor, and the places of an index. */
+/*
+ * The header's names: flags, the words that the rule leaves 0, the words of a cursor, the places of an index, and the
+ * bytes of a report.
+ */
 #include "cases.h"
 #include "rule.h"
+#include <inttypes.h>
+#include <stdio.h>
 
 #define LOAD (MAGNETAR_FLAG_WE | MAGNETAR_FLAG_IS_ARITH | MAGNETAR_FLAG_IS_LOAD)
 
@@ -33,6 +38,13 @@ static void name_case(const struct name *c)
     check("flags", packed - packed % TWO(16), c->flags);
 }
 
+/* The line of the most runs, each with the largest counts. */
+static uint64_t longest_report(void)
+{
+    uint64_t sum = MAGNETAR_MAX_RUNS * MAGNETAR_MAX_COUNT, mean = 100 * MAGNETAR_MAX_COUNT;
+    return snprintf(NULL, 0, "%d,%" PRIu64 ",%" PRIu64 ",%" PRIu64 "\n", MAGNETAR_MAX_RUNS, sum, sum, mean);
+}
+
 void name_cases(void)
 {
     for (size_t i = 0; i < sizeof cases / sizeof *cases; i++)
@@ -42,4 +54,6 @@ void name_cases(void)
     check("the registers' end", MAGNETAR_CURSOR_REGS + MAGNETAR_REGS, MAGNETAR_CURSOR_RAM);
     check("RAM's end", MAGNETAR_CURSOR_RAM + MAGNETAR_RAM_WORDS, MAGNETAR_CURSOR_MICRO_PC);
     check("an index's end", MAGNETAR_REGS + MAGNETAR_RAM_WORDS, MAGNETAR_INDEX_PLACES);
+    begin(AMID_GUARDS, "magnetar_report", "the header's bytes");
+    check("the longest line", longest_report(), MAGNETAR_REPORT_BYTES);
 }

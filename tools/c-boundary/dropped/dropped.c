@@ -5,7 +5,7 @@
  */
 #include "magnetar_cpu.h"
 
-void drop(const uint32_t *program, uint64_t *words, uint64_t *cursor)
+void drop(const uint32_t *program, uint64_t *words, uint64_t *cursor, uint8_t *line)
 {
     magnetar_expand(program, 0, words, 0, words, 0, words);
     magnetar_is_expansion(words, 0);
@@ -16,5 +16,6 @@ void drop(const uint32_t *program, uint64_t *words, uint64_t *cursor)
     magnetar_same(cursor, cursor);
     magnetar_index_build(words, 0, words, 0);
     magnetar_index_add(words, 0, 0, words, 0);
+    magnetar_report(words, 0, words, 0, line, 0, words);
     magnetar_cursor_words();
 }

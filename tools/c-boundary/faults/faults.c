@@ -39,6 +39,7 @@ uint64_t __real_magnetar_same(const uint64_t *, const uint64_t *);
 uint64_t __real_magnetar_cursor_words(void);
 uint64_t __real_magnetar_index_build(const uint64_t *, size_t, uint64_t *, size_t);
 uint64_t __real_magnetar_index_add(const uint64_t *, size_t, uint64_t, uint64_t *, size_t);
+uint64_t __real_magnetar_report(const uint64_t *, size_t, const uint64_t *, size_t, uint8_t *, size_t, uint64_t *);
 
 uint64_t __wrap_magnetar_expand(const uint32_t *program, size_t program_len, uint64_t *rows, size_t rows_len,
                                 uint64_t *starts, size_t starts_len, uint64_t *count)
@@ -181,4 +182,47 @@ uint64_t __wrap_magnetar_index_add(const uint64_t *log, size_t log_len, uint64_t
     change("index_add writes a place that no record does", index + 2, answer == 0);
     answer = other("index_add has 5 before 8", answer, 5, answer == 8 && before > MAGNETAR_MAX_RECORDS);
     return other("index_add's sum wraps", answer, 0, answer == 5 && sum <= MAGNETAR_MAX_RECORDS);
+}
+
+/* Whether one of the counts is above the largest. */
+static int is_above(const uint64_t *counts, size_t n)
+{
+    while (n > 0 && counts[n - 1] <= MAGNETAR_MAX_COUNT)
+        n--;
+    return n > 0;
+}
+
+/* Whether the mean ends in half a hundredth. */
+static int is_half(const uint64_t *counts, size_t n)
+{
+    uint64_t sum = 0;
+    for (size_t i = 0; i < n; i++)
+        sum += counts[i];
+    return 200 * sum % (2 * n) == n;
+}
+
+uint64_t __wrap_magnetar_report(const uint64_t *live, size_t live_len, const uint64_t *records, size_t records_len,
+                                uint8_t *line, size_t line_len, uint64_t *length)
+{
+    if (is_fault("report reads past the records") && records_len > 0)
+        seen = records[records_len];
+    if (is_fault("report reads an empty list") && live_len == 0)
+        seen = live[0];
+    uint64_t answer = __real_magnetar_report(live, live_len, records, records_len, line, line_len, length);
+    if (is_fault("report writes past its line") && answer == 0)
+        line[*length] = 0;
+    if (is_fault("report writes the line on refusal") && answer != 0 && line_len > 0)
+        line[0] = '0';
+    if (is_fault("report lets a half go down") && answer == 0 && is_half(live, live_len))
+        line[*length - 2]--;
+    if (is_fault("report does not count the line feed") && answer == 0)
+        *length -= 1;
+    change("report writes length on refusal", length, answer != 0);
+    answer = other("report wants the longest line's bytes", answer, 6, answer == 0 && line_len < MAGNETAR_REPORT_BYTES);
+    answer = other("report has 10 before 9", answer, 10, answer == 9 && is_above(live, live_len));
+    answer = other("report has 6 before 10", answer, 6, answer == 10 && line_len == 0);
+    answer = other("report has 10 for live counts only", answer, 0, answer == 10 && !is_above(live, live_len));
+    answer = other("report refuses a count of 2^32", answer, 10, answer == 0 && live[0] == MAGNETAR_MAX_COUNT);
+    answer = other("report refuses the most runs", answer, 9, answer == 0 && live_len == MAGNETAR_MAX_RUNS);
+    return other("report takes more than the most runs", answer, 0, answer == 9 && live_len > MAGNETAR_MAX_RUNS);
 }

@@ -6,6 +6,7 @@ mod executing;
 mod expanding;
 mod indexing;
 mod judging;
+mod reporting;
 mod running;
 mod starting;
 
@@ -15,6 +16,7 @@ pub use executing::Executing;
 pub use expanding::Expanding;
 pub use indexing::Indexing;
 pub use judging::Judging;
+pub use reporting::Reporting;
 pub use running::{image_mut, Running};
 pub use starting::Starting;
 
@@ -30,10 +32,11 @@ pub enum Function {
     Same,
     IndexBuild,
     IndexAdd,
+    Report,
 }
 
 impl Function {
-    pub const ALL: [Self; 9] = [
+    pub const ALL: [Self; 10] = [
         Self::Expand,
         Self::IsExpansion,
         Self::Start,
@@ -43,6 +46,7 @@ impl Function {
         Self::Same,
         Self::IndexBuild,
         Self::IndexAdd,
+        Self::Report,
     ];
 
     pub fn name(self) -> &'static str {
@@ -56,6 +60,7 @@ impl Function {
             Function::Same => "same",
             Function::IndexBuild => "index_build",
             Function::IndexAdd => "index_add",
+            Function::Report => "report",
         }
     }
 
@@ -72,6 +77,7 @@ impl Function {
             // No log in memory has over 2^62 records.
             Function::IndexBuild => &[0, 6, 7, 8],
             Function::IndexAdd => &[0, 5, 6, 7, 8],
+            Function::Report => &[0, 6, 9, 10],
         }
     }
 }
@@ -136,6 +142,7 @@ pub enum Lending<'a> {
     Execute(Executing<'a>),
     Same(Comparing),
     Index(Indexing),
+    Report(Reporting),
 }
 
 impl Lending<'_> {
@@ -154,6 +161,7 @@ impl Lending<'_> {
                 None => Function::IndexBuild,
                 Some(_) => Function::IndexAdd,
             },
+            Lending::Report(_) => Function::Report,
         }
     }
 }
@@ -168,6 +176,7 @@ impl Lend for Lending<'_> {
             Lending::Execute(lent) => lent.library(),
             Lending::Same(lent) => lent.library(),
             Lending::Index(lent) => lent.library(),
+            Lending::Report(lent) => lent.library(),
         }
     }
 
@@ -180,6 +189,7 @@ impl Lend for Lending<'_> {
             Lending::Execute(lent) => lent.model(),
             Lending::Same(lent) => lent.model(),
             Lending::Index(lent) => lent.model(),
+            Lending::Report(lent) => lent.model(),
         }
     }
 
@@ -192,6 +202,7 @@ impl Lend for Lending<'_> {
             (Lending::Execute(found), Lending::Execute(wanted)) => found.compare(wanted),
             (Lending::Same(found), Lending::Same(wanted)) => found.compare(wanted),
             (Lending::Index(found), Lending::Index(wanted)) => found.compare(wanted),
+            (Lending::Report(found), Lending::Report(wanted)) => found.compare(wanted),
             _ => panic!("calls of two kinds"),
         }
     }
@@ -205,6 +216,7 @@ impl Lend for Lending<'_> {
             Lending::Execute(lent) => lent.about(),
             Lending::Same(lent) => lent.about(),
             Lending::Index(lent) => lent.about(),
+            Lending::Report(lent) => lent.about(),
         }
     }
 }

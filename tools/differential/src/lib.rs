@@ -4,7 +4,9 @@
 
 #![forbid(unsafe_code)]
 
+mod counts;
 mod damage;
+mod figures;
 mod index;
 mod lending;
 mod lent;
@@ -17,8 +19,8 @@ mod report;
 mod rounds;
 mod wrong;
 
-pub use lending::{check, Comparing, Executing, Expanding, Indexing, Judging, Running, Starting};
-pub use lending::{Function, Lend, Lending, Modelled};
+pub use lending::{check, Comparing, Executing, Expanding, Indexing, Judging};
+pub use lending::{Function, Lend, Lending, Modelled, Reporting, Running, Starting};
 pub use lent::{Lent, GUARDS};
 pub use machine::{image_of, Call, Rom};
 pub use programs::{known_word, live_word, ordinary_word, program, register_shift, stage_word};

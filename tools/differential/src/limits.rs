@@ -1,9 +1,10 @@
-//! The calls at the limits of words and rows: the most, and one more. Half a
+//! The calls at the limits of words, rows and runs: the most, and one more. Half a
 //! gigabyte of rows, so they are made once a run.
 
+use crate::counts::{MAX_COUNT, MAX_RUNS};
 use crate::programs::{ordinary_word, program, register_shift};
 use crate::rounds::Tell;
-use crate::{Call, Executing, Expanding, Expansion, Judging, Running};
+use crate::{Call, Executing, Expanding, Expansion, Judging, Reporting, Running};
 use crate::{Lending, Modelled, Rng, Rom, ADDI};
 use magnetar_cpu::{Cursor, MAX_PROGRAM_WORDS, RECORD_WORDS};
 
@@ -22,6 +23,8 @@ pub fn run_limits(rng: &mut Rng, tell: Tell) {
     // The table needs no program to refuse so many rows.
     rom.program = None;
     on_rows(&rom, rng, tell);
+    report(MAX_RUNS, rng, tell);
+    report(MAX_RUNS + 1, rng, tell);
 }
 
 /// Into buffers that are exactly full.
@@ -46,4 +49,14 @@ fn on_rows(rom: &Rom, rng: &mut Rng, tell: Tell) {
     }
     let executing = Executing::new(rom, &[], CYCLES as u64, ROOM, rng);
     tell(&Modelled::new(Lending::Execute(executing)));
+}
+
+/// Into a line that is exactly full for the most runs. Their mean is 37.5 hundredths
+/// below the largest, a half that goes up to an odd number.
+fn report(runs: usize, rng: &mut Rng, tell: Tell) {
+    let records = vec![MAX_COUNT; runs];
+    let mut live = records.clone();
+    live[0] -= 3 * 8192;
+    let reporting = Reporting::new(&live, &records, 51, rng);
+    tell(&Modelled::new(Lending::Report(reporting)));
 }

@@ -5,7 +5,7 @@ use crate::{Function, Lend, Lending, LIMITS};
 use std::fmt;
 
 /// The answers of a call are numbers from 0 on.
-pub const ANSWERS: usize = 9;
+pub const ANSWERS: usize = 11;
 /// How many differences are told.
 const TOLD: usize = 5;
 /// From this many rounds on, every answer that a function can give must come up:
@@ -157,14 +157,14 @@ mod tests {
     #[test]
     fn the_table_of_answers() {
         let mut report = Report::new(1);
-        report.answers[Function::Execute as usize] = [20, 1, 0, 3, 0, 5, 6, 0, 0];
+        report.answers[Function::Execute as usize] = [20, 1, 0, 3, 0, 5, 6, 0, 0, 0, 0];
         let table = report.to_string();
         let lines: Vec<&str> = table.lines().collect();
         assert_eq!(lines.len(), 1 + Function::ALL.len());
         let words = |line: &str| line.split_whitespace().map(str::to_string).collect();
         let [head, execute, start]: [Vec<String>; 3] = [lines[0], lines[6], lines[3]].map(words);
-        assert_eq!(head.join(" "), "answer 0 1 2 3 4 5 6 7 8");
-        assert_eq!(execute.join(" "), "execute 20 1 0 3 - 5 6 - -");
-        assert_eq!(start.join(" "), "start 0 - - - - - - - -");
+        assert_eq!(head.join(" "), "answer 0 1 2 3 4 5 6 7 8 9 10");
+        assert_eq!(execute.join(" "), "execute 20 1 0 3 - 5 6 - - - -");
+        assert_eq!(start.join(" "), "start 0 - - - - - - - - - -");
     }
 }

@@ -3,8 +3,8 @@
 
 use crate::limits::run_limits;
 use crate::programs::{any_word, program};
-use crate::{logs, random, Call, Expansion, Lending, Modelled, Rng, Rom};
-use crate::{Comparing, Executing, Expanding, Indexing, Judging, Running, Starting};
+use crate::{counts, figures, logs, random, Call, Expansion, Lending, Modelled, Rng, Rom};
+use crate::{Comparing, Executing, Expanding, Indexing, Judging, Reporting, Running, Starting};
 use magnetar_cpu::{Image, INDEX_PLACES, RECORD_WORDS};
 
 /// What is handed every call of a round.
@@ -54,7 +54,7 @@ struct Round {
 impl Round {
     fn call(&mut self, tell: Tell) {
         let rng = &mut self.rng;
-        let kind = rng.below(18);
+        let kind = rng.below(20);
         // Some calls get other rows than the rest of the round.
         let damaged = (rng.below(12) == 0).then(|| random::damaged(&self.rom.rows, rng));
         let damaged = damaged.map(Rom::new);
@@ -66,7 +66,8 @@ impl Round {
             6..11 => self.image = run(rom, &self.image, &mut self.log, rng, tell),
             11..14 => execute(rom, rng, tell),
             14..16 => compare(&self.image, rng, tell),
-            _ => index(&self.log, rng, tell),
+            16..18 => index(&self.log, rng, tell),
+            _ => report(rng, tell),
         }
     }
 }
@@ -152,6 +153,14 @@ fn index(log: &[u64], rng: &mut Rng, tell: Tell) {
     tell(&Modelled::new(Lending::Index(indexing)));
 }
 
+fn report(rng: &mut Rng, tell: Tell) {
+    let [live, records] = counts::lists(rng);
+    let exact = figures::line(figures::figures(&live, &records)).len();
+    let bytes = random::length_around(exact, rng);
+    let reporting = Reporting::new(&live, &records, bytes, rng);
+    tell(&Modelled::new(Lending::Report(reporting)));
+}
+
 #[cfg(test)]
 mod tests {
     use super::*;
@@ -178,6 +187,7 @@ mod tests {
             Lending::Execute(lent) => lent.records.all.clone(),
             Lending::Same(lent) => lent.b.all.clone(),
             Lending::Index(lent) => lent.index.all.clone(),
+            Lending::Report(lent) => lent.live.all.clone(),
         }
     }
 

@@ -8,11 +8,12 @@ mod expansions;
 mod indexes;
 mod judges;
 mod limits;
+mod reports;
 mod sames;
 mod starts;
 
 use crate::rounds::run_round;
-use crate::{Comparing, Executing, Expanding, Indexing, Judging, Running, Starting};
+use crate::{Comparing, Executing, Expanding, Indexing, Judging, Reporting, Running, Starting};
 use crate::{Function, Lending, Modelled, LIMITS};
 use cycles::Cycle;
 
@@ -28,6 +29,7 @@ type OfCycle = fn(&mut Cycle);
 type OfExecute = fn(&Executing, &mut Executing, &mut u64);
 type OfSame = fn(&Comparing, &mut Comparing, &mut u64);
 type OfIndex = fn(&Indexing, &mut Indexing, &mut u64);
+type OfReport = fn(&Reporting, &mut Reporting, &mut u64);
 
 #[derive(Clone, Copy)]
 enum Change {
@@ -39,6 +41,7 @@ enum Change {
     Execute(OfExecute),
     Same(OfSame),
     Index(OfIndex),
+    Report(OfReport),
 }
 
 impl Change {
@@ -51,6 +54,7 @@ impl Change {
             Change::Execute(_) => &[Function::Execute],
             Change::Same(_) => &[Function::Same],
             Change::Index(_) => &[Function::IndexBuild, Function::IndexAdd],
+            Change::Report(_) => &[Function::Report],
         }
     }
 
@@ -81,6 +85,9 @@ impl Change {
                 change(before, after, answer);
             }
             (Change::Index(change), Lending::Index(before), Lending::Index(after)) => {
+                change(before, after, answer);
+            }
+            (Change::Report(change), Lending::Report(before), Lending::Report(after)) => {
                 change(before, after, answer);
             }
             _ => (),
@@ -145,6 +152,7 @@ fn variants() -> Vec<Noticed> {
     all.extend(executions::WRONG.map(|variant| Noticed::new(variant, Change::Execute)));
     all.extend(sames::WRONG.map(|variant| Noticed::new(variant, Change::Same)));
     all.extend(indexes::WRONG.map(|variant| Noticed::new(variant, Change::Index)));
+    all.extend(reports::WRONG.map(|variant| Noticed::new(variant, Change::Report)));
     all
 }
 
@@ -154,6 +162,7 @@ pub fn notice_at_limits(seed: u64) -> Vec<Noticed> {
     all.extend(limits::EXPANSIONS.map(|variant| Noticed::new(variant, Change::Expand)));
     all.extend(limits::CALLS.map(|variant| Noticed::new(variant, Change::Run)));
     all.extend(limits::EXECUTIONS.map(|variant| Noticed::new(variant, Change::Execute)));
+    all.extend(limits::REPORTS.map(|variant| Noticed::new(variant, Change::Report)));
     run_round(seed, LIMITS, &mut |made| {
         all.iter_mut()
             .for_each(|noticed| noticed.look(LIMITS, made));
@@ -200,6 +209,7 @@ mod tests {
             Change::Execute(|_, _, _| ()),
             Change::Same(|_, _, _| ()),
             Change::Index(|_, _, _| ()),
+            Change::Report(|_, _, _| ()),
         ];
         let mut all = right.map(|change| Noticed::new(("right", change), |change| change));
         for number in 1..=500 {

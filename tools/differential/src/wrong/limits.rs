@@ -1,6 +1,7 @@
-//! Wrong limits of words and rows.
+//! Wrong limits of words, rows and runs.
 
-use super::{change, OfExecute, OfExpand, OfRun, Variant};
+use super::{change, OfExecute, OfExpand, OfReport, OfRun, Variant};
+use crate::counts::MAX_RUNS;
 use magnetar_cpu::{MAX_PROGRAM_WORDS, MAX_ROWS};
 
 pub const EXPANSIONS: [Variant<OfExpand>; 2] = [
@@ -29,5 +30,14 @@ pub const EXECUTIONS: [Variant<OfExecute>; 2] = [
     }),
     ("the most rows are refused", |before, _, answer| {
         change(answer, 0, 2, before.rows.words().len() == MAX_ROWS);
+    }),
+];
+
+pub const REPORTS: [Variant<OfReport>; 2] = [
+    ("one run too many is accepted", |before, _, answer| {
+        change(answer, 9, 0, before.live.words().len() == MAX_RUNS + 1);
+    }),
+    ("the most runs are refused", |before, _, answer| {
+        change(answer, 0, 9, before.live.words().len() == MAX_RUNS);
     }),
 ];

@@ -1,8 +1,9 @@
 //! A comparison says where a call is wrong: of every part that is lent, in the
 //! words and in the guards.
 
-use differential::{check, Comparing, Executing, Expanding, Indexing, Judging, Running, Starting};
-use differential::{Call, Expansion, Lend, Lent, Rng, Rom, ADDI, ECALL, GUARDS, SLL};
+use differential::{check, Comparing, Executing, Expanding, Indexing, Judging};
+use differential::{Call, Expansion, Lend, Lent, Reporting, Rng, Rom, Running, Starting};
+use differential::{ADDI, ECALL, GUARDS, SLL};
 use magnetar_cpu::Cursor;
 
 const BLANK: [u64; Cursor::WORDS] = [0; Cursor::WORDS];
@@ -130,5 +131,27 @@ fn of_an_index() {
             let indexing = Indexing::new(earlier, &[1; 34], index, &mut Rng::new(2));
             check_parts(&indexing, &parts);
         }
+    }
+}
+
+/// With bytes past the line, and with none.
+#[test]
+fn of_a_report() {
+    let parts: [Part<Reporting>; 3] = [
+        ("live", |lent| &mut lent.live),
+        ("records", |lent| &mut lent.records),
+        ("length", |lent| &mut lent.length),
+    ];
+    for bytes in [12, 0] {
+        let reporting = Reporting::new(&[1, 2, 2], &[2, 2, 2], bytes, &mut Rng::new(2));
+        check_parts(&reporting, &parts);
+        let checked = check(reporting, |reporting| {
+            let answer = reporting.library();
+            reporting.line.all[GUARDS + bytes] ^= 1;
+            answer
+        });
+        let wanted = format!("line, place {bytes} of {bytes}: ");
+        let complaint = checked.err().expect("a complaint");
+        assert!(complaint.starts_with(&wanted), "{complaint}");
     }
 }
