@@ -1,6 +1,7 @@
 //! Times the static library beside the reference, in one run. The tables call the
 //! reference Rust.
 
+mod figures;
 mod index;
 mod machine;
 mod mix;
@@ -10,11 +11,15 @@ mod target;
 mod untimed;
 
 use differential::{ordinary_word, program, register_shift, Rng};
+use figures::Reported;
 use index::Indexed;
 use machine::{Machine, LOOPS};
 use magnetar_cpu::MAX_PROGRAM_WORDS;
 use mix::Mix;
-use report::{print_cold, print_expansion, print_indexes, print_machines, print_short, print_test};
+use report::{
+    print_cold, print_expansion, print_indexes, print_machines, print_reports, print_short,
+    print_test,
+};
 use short::Short;
 use std::env;
 use std::process::ExitCode;
@@ -147,17 +152,19 @@ fn run(rounds: usize) -> Result<Vec<Missed>, String> {
     print_cold(&calls.cold, DISPLACING_MIB);
     print_short(&calls.shorts);
     print_indexes(&calls.indexes, &mut missed);
+    print_reports(&calls.reports, &mut missed);
     Ok(missed)
 }
 
-/// All segments and indexes that are timed. They share their rounds, so that times of
-/// a busy computer fall on every table.
+/// All segments, indexes and reports that are timed. They share their rounds, so that
+/// times of a busy computer fall on every table.
 struct Calls {
     machines: Vec<Machine>,
     cold: Vec<Machine>,
     others: Vec<u64>,
     shorts: Vec<Short>,
     indexes: Vec<Indexed>,
+    reports: Vec<Reported>,
 }
 
 impl Calls {
@@ -168,6 +175,7 @@ impl Calls {
             others: vec![0; (DISPLACING_MIB << 20) / size_of::<u64>()],
             shorts: Short::all()?,
             indexes: Indexed::all()?,
+            reports: Reported::all()?,
         })
     }
 
@@ -178,6 +186,7 @@ impl Calls {
         }
         self.shorts.iter_mut().for_each(Short::round);
         self.indexes.iter_mut().for_each(Indexed::round);
+        self.reports.iter_mut().for_each(Reported::round);
     }
 }
 

@@ -1,10 +1,11 @@
 //! The tables that are printed.
 
+use crate::figures::Reported;
 use crate::index::Indexed;
 use crate::machine::Machine;
 use crate::mix::Mix;
 use crate::short::{nanoseconds_per_row, Short};
-use crate::target::{state, Missed, INDEX, PACKED, RATIO, ROWS, RUN};
+use crate::target::{state, Missed, INDEX, PACKED, RATIO, REPORT, ROWS, RUN};
 
 pub fn print_expansion(mixes: &[Mix], missed: &mut Vec<Missed>) {
     println!(
@@ -101,6 +102,24 @@ pub fn print_indexes(indexes: &[Indexed], missed: &mut Vec<Missed>) {
         let speeds =
             format!("{name:<22}{records:>8}{rust:>8.1}{library:>9.1}{ratio:>7.2} {state:<6}");
         println!("{speeds}{read:>7.1}{:>8.2}", library / read);
+    }
+}
+
+pub fn print_reports(reports: &[Reported], missed: &mut Vec<Missed>) {
+    println!("\nA report over many runs, ns; target:");
+    println!(
+        "ratio to a report written in Rust at least {}",
+        REPORT.least
+    );
+    println!("(reading adds up both lists)");
+    println!("                  runs     Rust  library  ratio          reading   to it");
+    for reported in reports {
+        let runs = reported.runs();
+        let [rust, library, read] = reported.nanoseconds();
+        let ratio = rust / library;
+        let state = state(&format!("report, {runs} runs"), ratio, &REPORT, missed);
+        let times = format!("{runs:>22}{rust:>9.0}{library:>9.0}{ratio:>7.2} {state:<6}");
+        println!("{times}{read:>10.0}{:>8.2}", read / library);
     }
 }
 

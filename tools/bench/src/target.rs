@@ -34,6 +34,12 @@ pub const INDEX: Target = Target {
     is_ratio: true,
 };
 
+/// The speed of the library's report over that of one in Rust, for every number of runs.
+pub const REPORT: Target = Target {
+    least: 1.0,
+    is_ratio: true,
+};
+
 /// A target that was missed.
 pub struct Missed {
     text: String,
