@@ -1,5 +1,5 @@
 -- The last-writer index of a log, and the two calls that make it (02, T-02). `word`, `stored` and `records_in` are of interp's
--- Replay; `first_met` is of expand's Expand. Assumes nothing: these are definitions.
+-- Replay; `first_met` is of refusal_table's Table. Assumes nothing: these are definitions.
 use Rattle.std.specs.Prelude.{ℕ, zero, suc, ◌+◌, ◌-◌, ◌^◌, Bool, true, not, cond, ◌&&◌, ◌||◌, Result, Ok, Err, List, [], ◌∷◌, ◌++◌, length, take, drop, replicate, ◌==◌, nat_lt, slice_set}
 use Rattle.refusal_table.specs.Table.{Line, line, first_met}
 use Rattle.interp.specs.Replay.{word, stored, records_in}

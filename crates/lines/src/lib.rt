@@ -29,7 +29,7 @@ pub const TEXT: usize = 91455;
 // The words of a record.
 const RECORD_WORDS: usize = 17;
 
-// Each function below puts a text first in `out` and returns its length.
+// Each `put_` function puts a text first in `out` and returns its length.
 
 // A number and the character behind it.
 fn put_number(n: u64, mark: u8, out: &mut [u8]) -> usize

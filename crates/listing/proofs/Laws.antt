@@ -1,4 +1,4 @@
--- What a turn of each loop does, and the stores of a line against its text. Assumes nothing.
+-- What a turn of each loop does, and the columns of a line against its text. Assumes nothing.
 use Rattle.std.proofs.Common.{◌≡◌, ℕ, suc, ◌+◌, ◌-◌, ◌*◌, ◌^◌, ◌<◌, ◌≤◌, List, [], ◌∷◌, None, Some, Ok, Err, ◌++◌, length, take, drop, replicate, get_or, set, refl, ap, ◌∙◌, add-zero, mul-le-mul_right, suc-mul, pow-suc, add-one, arith, le-ltb, lt-ltb, eq-eqb, ne_eqb}
 use borrow.Rule.Slice.PartMut.{put_mid}
 use lib.ListN.{drop_of_length-le}
@@ -79,7 +79,7 @@ kind_seven kind.System = seven _ _ _ _ _ _ _
 abbrev fields_of : (raw rd rs1 rs2 funct3 imm : ℕ) → Fields
 fields_of raw rd rs1 rs2 funct3 imm = record { raw = raw; rd = rd; rs1 = rs1; rs2 = rs2; funct3 = funct3; imm = imm }
 
--- the columns are disjoint, so the stores and the text are the same 48 characters
+-- the columns are disjoint, so the line that they are put into and the text are the same 48 characters
 module _ (raw rd rs1 rs2 funct3 imm v : ℕ) where
   word_filled : {text : List ℕ} → Seven text
       → put_digits 28 2 16 v (put_fields (blank text 32) (fields_of raw rd rs1 rs2 funct3 imm)) ≡ columns text (last_digits 16 2 v) raw rd rs1 rs2 funct3 imm
