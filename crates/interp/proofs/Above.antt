@@ -11,8 +11,9 @@ use Rattle.interp.specs.Demand3.{Demand3}
 use Rattle.interp.proofs.values.Readings.{signed_claims}
 use Rattle.interp.proofs.executing.Executing.{execute_laws}
 use Rattle.interp.proofs.arms.Flags.{alu_flags_lt}
-use Rattle.interp.proofs.calls.Runs.{end-suc}
+use Rattle.interp.proofs.calls.Runs.{end-suc, adds, ends}
 use Rattle.interp.proofs.calls.Demand3.{demand3}
+use Rattle.interp.proofs.cycle.Uncounted.{not_counted}
 use Rattle.interp.proofs.refusals.Judged.{refused_not_0}
 use Rattle.interp.proofs.Sizes.{start_sized, live_sized, padding_sized, answer_sized, execute_sized}
 
@@ -64,6 +65,9 @@ laws =
       one_more = one_more;
       live_cursor = live_cursor;
       live_records = live_records;
+      not_counted = not_counted;
+      adds = adds;
+      ends = ends;
     }
 
 -- the other claims that they use, from where they are proved

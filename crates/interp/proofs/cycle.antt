@@ -1,1 +1,2 @@
 pub mod Honest
+pub mod Uncounted

@@ -3,9 +3,9 @@
 use Rattle.std.specs.Prelude.{◌≡◌, ℕ, suc, ◌<◌, false, List, length, ◌==◌}
 use Rattle.interp.specs.declared.Cursor.{Cursor}
 use Rattle.interp.specs.declared.Refusal.{Refusal}
-use Rattle.interp.specs.Machine.{start_of}
+use Rattle.interp.specs.Machine.{start_of, flat}
 use Rattle.interp.specs.Cycle.{alu_flags, stores, Step, live, padding, cycle}
-use Rattle.interp.specs.Calls.{recorded, end, Call, answer_of, refusal_number}
+use Rattle.interp.specs.Calls.{recorded, end, Call, turn, answer_of, counted, added, refusal_number}
 use Rattle.interp.specs.Execute.{execute_of}
 
 -- 64 registers and 256 words of RAM
@@ -16,6 +16,24 @@ pub record Sized (c : Cursor) : Type 0 where
 -- the machine has not halted before any of n live cycles
 abbrev pub Running : List ℕ → ℕ → Cursor → Type 0
 Running rows n c = (k : ℕ) → k < n → (end (live rows) k c).halted ≡ false
+
+-- the cursor with its count of cycles put to 0: two cursors agree but for cycles where these are equal
+unfoldable pub uncounted : Cursor → Cursor
+uncounted c =
+    record {
+      regs = c.regs;
+      ram = c.ram;
+      micro_pc = c.micro_pc;
+      cycles = 0;
+      halted = c.halted;
+      output = c.output;
+      next_fetch = c.next_fetch;
+    }
+
+-- two steps show the same record, and leave cursors that agree but for cycles
+pub record Uncounted (s t : Step) : Type 0 where
+  pub shown : s.shown ≡ t.shown
+  pub after : uncounted s.after ≡ uncounted t.after
 
 -- the contract of `cycle_laws`
 pub record CycleLaws : Type 0 where
@@ -34,3 +52,10 @@ pub record CycleLaws : Type 0 where
   -- on a machine that has not halted, the cycles of a segment call are live ones
   pub live_cursor : (rows : List ℕ) (n : ℕ) (c : Cursor) → Running rows n c → end (cycle rows) n c ≡ end (live rows) n c
   pub live_records : (rows : List ℕ) (n : ℕ) (c : Cursor) → Running rows n c → recorded (cycle rows) n c ≡ recorded (live rows) n c
+  -- no cycle of a call looks at cycles
+  pub not_counted : (rows : List ℕ) (k : Call) (c d : Cursor) → uncounted c ≡ uncounted d → Uncounted (turn k rows c) (turn k rows d)
+  -- what a call adds to the log, and where it ends: at as many cycles as it counts, none if it is refused
+  pub adds : (rows : List ℕ) (c : Cursor) (k : Call)
+      → added k (answer_of rows c k) ≡ flat (recorded (turn k rows) (counted (answer_of rows c k).number k) c)
+  pub ends : (rows : List ℕ) (c : Cursor) (k : Call)
+      → (answer_of rows c k).cursor ≡ end (turn k rows) (counted (answer_of rows c k).number k) c

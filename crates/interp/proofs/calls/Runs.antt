@@ -178,26 +178,37 @@ calls_chain rows c (k ∷ ks) l =
     rw map-append
     (join (call_chain number rows c k refl l) (calls_chain rows (answer_of rows c k).cursor ks (call_level number rows c k refl l)))
 
+-- ---- a call does as many cycles as it counts, none if it is refused
+
+call_shows : (number : ℕ) (rows : List ℕ) (c : Cursor) (k : Call)
+    → did number rows c k ≡ recorded (turn k rows) (counted (settled number rows c k).number k) c
+unfolding did settled counted recorded
+call_shows zero rows c k = refl
+call_shows (suc number) rows c k = refl
+
+call_ends : (number : ℕ) (rows : List ℕ) (c : Cursor) (k : Call)
+    → (settled number rows c k).cursor ≡ end (turn k rows) (counted (settled number rows c k).number k) c
+unfolding settled counted end
+call_ends zero rows c k = refl
+call_ends (suc number) rows c k = refl
+
+module _ (rows : List ℕ) (c : Cursor) (k : Call) where
+  pub adds : added k (answer_of rows c k) ≡ flat (recorded (turn k rows) (counted (answer_of rows c k).number k) c)
+  unfolding answer_of
+  adds = let number = refusal_of rows c k in added_did number rows c k ∙ ap flat (call_shows number rows c k)
+
+  pub ends : (answer_of rows c k).cursor ≡ end (turn k rows) (counted (answer_of rows c k).number k) c
+  unfolding answer_of
+  ends = call_ends (refusal_of rows c k) rows c k
+
 -- ---- a list of segment calls is one run of as many cycles as it counts
 
 pub record OneRun (rows : List ℕ) (c : Cursor) (ks : List Call) : Type 0 where
   pub shows : trace rows c ks ≡ recorded (cycle rows) (total rows c ks) c
   pub stops : last rows c ks ≡ end (cycle rows) (total rows c ks) c
 
-segment-shows : (number : ℕ) (rows : List ℕ) (c : Cursor) (n : ℕ) (b : List ℕ)
-    → did number rows c (segment n b) ≡ recorded (cycle rows) (counted (settled number rows c (segment n b)).number (segment n b)) c
-unfolding did settled counted turn amount recorded
-segment-shows zero rows c n b = refl
-segment-shows (suc number) rows c n b = refl
-
-segment_stops : (number : ℕ) (rows : List ℕ) (c : Cursor) (n : ℕ) (b : List ℕ)
-    → (settled number rows c (segment n b)).cursor ≡ end (cycle rows) (counted (settled number rows c (segment n b)).number (segment n b)) c
-unfolding settled counted turn amount end
-segment_stops zero rows c n b = refl
-segment_stops (suc number) rows c n b = refl
-
 pub one_run : (rows : List ℕ) (c : Cursor) (ks : List Call) → segments ks ≡ true → OneRun rows c ks
-unfolding trace total last segments is_segment answer_of recorded end
+unfolding trace total last segments is_segment answer_of turn recorded end
 one_run rows c [] t = record { shows = refl; stops = refl }
 one_run rows c (segment n b ∷ ks) t =
     let f = cycle rows in
@@ -205,10 +216,10 @@ one_run rows c (segment n b ∷ ks) t =
     let c₁ = (settled number rows c (segment n b)).cursor in
     let m = counted (settled number rows c (segment n b)).number (segment n b) in
     let rest = one_run rows c₁ ks t in
-    let e : c₁ ≡ end f m c = segment_stops number rows c n b in
+    let e : c₁ ≡ end f m c = call_ends number rows c (segment n b) in
     let k = total rows c₁ ks in
     record {
-      shows = ap₂ ◌++◌ (segment-shows number rows c n b) (rest.shows ∙ ap (recorded f k) e) ∙ sym (recorded-add f m k c);
+      shows = ap₂ ◌++◌ (call_shows number rows c (segment n b)) (rest.shows ∙ ap (recorded f k) e) ∙ sym (recorded-add f m k c);
       stops = rest.stops ∙ ap (end f k) e ∙ sym (end-add f m k c);
     }
 one_run rows c (padded n b ∷ ks) t = absurd (false≢true t)
