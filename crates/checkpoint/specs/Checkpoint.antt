@@ -1,5 +1,5 @@
--- The same checkpoint (01, "Execute, sameness, program"). Assumes nothing: these are definitions.
-use Rattle.std.specs.Prelude.{ℕ, Bool, true, false, ◌&&◌, List, [], ◌∷◌, eqb, drop}
+-- The same checkpoint (01, "Execute, sameness, program", as T-05 of 02 has it). Assumes nothing: these are definitions.
+use Rattle.std.specs.Prelude.{ℕ, Bool, true, false, ◌&&◌, List, [], ◌∷◌, eqb}
 use Rattle.std.specs.Bool.{beq}
 use Rattle.interp.specs.declared.Cursor.{Cursor}
 
@@ -10,11 +10,12 @@ agree [] (y ∷ ys) = false
 agree (x ∷ xs) [] = false
 agree (x ∷ xs) (y ∷ ys) = eqb x y && agree xs ys
 
--- two cursors are the same checkpoint: micro_pc, halted, output, registers 1 to 63 and RAM agree
+-- two cursors are the same checkpoint: every field but cycles agrees
 unfoldable pub same_of : Cursor → Cursor → Bool
 same_of a b =
     eqb a.micro_pc.0 b.micro_pc.0
     && beq a.halted b.halted
     && eqb a.output b.output
-    && agree (drop 1 a.regs) (drop 1 b.regs)
+    && eqb a.next_fetch.0 b.next_fetch.0
+    && agree a.regs b.regs
     && agree a.ram b.ram
