@@ -298,10 +298,14 @@ uint64_t magnetar_execute(const uint64_t *rows, size_t rows_len,
                           uint64_t *live, uint64_t *record_count);
 
 /*
- * 1 if two cursors are the same checkpoint, else 0: micro_pc, halted, output,
- * registers 1 to 63 and RAM agree. Any two halted words that are not 0 agree.
- * Register 0, cycles and next_fetch do not count. Nothing is refused, nothing
- * is written.
+ * 1 if two cursors are the same checkpoint, else 0: every word but cycles
+ * agrees. Any two halted words that are not 0 agree. Nothing is refused,
+ * nothing is written.
+ *
+ * Two that are the same go on alike. Every list of segment and padding calls
+ * made on both, with the same rows, lengths and room for records, in which
+ * neither gets MAGNETAR_TOO_MANY_CYCLES, which looks at cycles, returns the same
+ * numbers, writes equal records, and leaves cursors that are the same.
  */
 MAGNETAR_MUST_USE
 uint64_t magnetar_same(const uint64_t a[MAGNETAR_CURSOR_WORDS],
@@ -311,7 +315,9 @@ uint64_t magnetar_same(const uint64_t a[MAGNETAR_CURSOR_WORDS],
  * The library's own MAGNETAR_CURSOR_WORDS. Compare it once before the first
  * call: a library of another version may have a longer cursor, and would write
  * past an array of this header's length. The same length does not mean the
- * same answers: a library before 0.2.0 gives 0 for slt and slti.
+ * same answers: a library before 0.2.0 gives 0 for slt and slti, and
+ * magnetar_same of one before 0.3.0 answers 1 where register 0 or next_fetch
+ * differs.
  */
 MAGNETAR_MUST_USE
 uint64_t magnetar_cursor_words(void);

@@ -20,7 +20,7 @@ static void same_case(enum placement placement, size_t at, uint64_t a, uint64_t 
 
 static int counts(size_t at)
 {
-    return at != MAGNETAR_CURSOR_REGS && at != MAGNETAR_CURSOR_CYCLES && at != MAGNETAR_CURSOR_NEXT_FETCH;
+    return at != MAGNETAR_CURSOR_CYCLES;
 }
 
 /*

@@ -212,9 +212,13 @@ pub fn execute(
     })
 }
 
-/// Whether two cursors are the same checkpoint: micro_pc, halted, output,
-/// registers 1 to 63 and RAM agree. Register cell 0, cycles and next_fetch do not
-/// count.
+/// Whether two cursors are the same checkpoint: every word but cycles agrees,
+/// where any two halted words other than 0 agree.
+///
+/// Two that are the same go on alike: every list of [`segment`] and [`padding`]
+/// calls made on both, with the same rows, lengths and room for records, in
+/// which neither is refused by [`Refusal::TooManyCycles`], gets the same
+/// refusals, writes equal records, and leaves cursors that are the same.
 ///
 /// # Panics
 ///

@@ -1,5 +1,5 @@
 -- An image is read back as the cursor that it was written for, so calls by images are calls by cursors. Assumes nothing.
-use mathlib.Core.Path.{◌≡◌, refl, sym, ap, ◌∙◌}
+use mathlib.Core.Path.{◌≡◌, refl, sym, ap, ap₂, ◌∙◌}
 use mathlib.Core.Bool.{Bool, true, false, not}
 use mathlib.Core.List.{List, [], ◌∷◌, ◌++◌}
 use Prim.Native.Nat.{ℕ, zero, suc, ◌+◌, ◌-◌, ◌≤◌}
@@ -13,8 +13,11 @@ use Rattle.interp.specs.Machine.{start_of}
 use Rattle.interp.specs.Calls.{Call, refusal_of, settled, answer_of, added, last, log}
 use Rattle.interp.specs.Laws.{Sized}
 use Rattle.interp.proofs.Above.{laws}
-use Rattle.magnetar_cpu.specs.Image.{image_words, cursor_of, numbers_of, image_of, image_after}
-use Rattle.magnetar_cpu.specs.Claims.{last_image, image_log, Kept, ImageLaws}
+use Rattle.checkpoint.specs.Checkpoint.{same_of}
+use Rattle.checkpoint.specs.Claims.{MadeAlike, numbers, meets_5}
+use Rattle.checkpoint.proofs.Alongside.{goes_on}
+use Rattle.magnetar_cpu.specs.Image.{image_words, cursor_of, numbers_of, image_of, same_images, image_after}
+use Rattle.magnetar_cpu.specs.Claims.{last_image, image_log, image_numbers, ImagesAlongside, Kept, ImageLaws}
 
 -- ---- a cursor through its image
 
@@ -120,6 +123,28 @@ logs rows image (k ∷ ks) h =
     let a = answer_of rows (cursor_of image) k in
     ap (λ r. added k a ++ r) (logs rows (image_after a image) ks l.size ∙ ap (λ c. log rows c ks) l.stands)
 
+calls_numbers : (rows image : List ℕ) (ks : List Call) → length image ≡ image_words
+    → image_numbers rows image ks ≡ numbers rows (cursor_of image) ks
+unfolding image_numbers numbers
+calls_numbers rows image [] h = refl
+calls_numbers rows image (k ∷ ks) h =
+    let l = left rows image k h in
+    let a = answer_of rows (cursor_of image) k in
+    ap (λ r. a.number ∷ r) (calls_numbers rows (image_after a image) ks l.size ∙ ap (λ c. numbers rows c ks) l.stands)
+
+alongside : (rows a b : List ℕ) (js ks : List Call) → length a ≡ image_words → length b ≡ image_words → same_images a b ≡ true
+    → MadeAlike js ks → meets_5 (image_numbers rows a js) ≡ false → meets_5 (image_numbers rows b ks) ≡ false
+    → ImagesAlongside rows a b js ks
+alongside rows a b js ks ha hb same alike p q =
+    let numbers_a = calls_numbers rows a js ha in
+    let numbers_b = calls_numbers rows b ks hb in
+    let t = goes_on.alongside rows (cursor_of a) (cursor_of b) js ks same alike (ap meets_5 (sym numbers_a) ∙ p) (ap meets_5 (sym numbers_b) ∙ q) in
+    record {
+      refusals = numbers_a ∙ t.refusals ∙ sym numbers_b;
+      logs = logs rows a js ha ∙ t.logs ∙ sym (logs rows b ks hb);
+      same = ap₂ same_of (cursors rows a js ha) (cursors rows b ks hb) ∙ t.same;
+    }
+
 -- ---- the whole
 
 pub image_laws : ImageLaws
@@ -134,4 +159,5 @@ image_laws =
       logs = logs;
       started_cursor = λ rows input ks. cursors rows _ ks (start input).sized ∙ ap (λ c. last rows c ks) (start input).read_back;
       started_log = λ rows input ks. logs rows _ ks (start input).sized ∙ ap (λ c. log rows c ks) (start input).read_back;
+      alongside = alongside;
     }

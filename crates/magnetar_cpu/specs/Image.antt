@@ -1,11 +1,12 @@
 -- A cursor's image in words: registers at 0 to 63, RAM at 64 to 319, and then its numbers. Assumes nothing: these are
 -- definitions.
-use Rattle.std.specs.Prelude.{ℕ, not, List, [], ◌∷◌, ◌++◌, eqb, take, drop, get_or}
+use Rattle.std.specs.Prelude.{ℕ, Bool, not, List, [], ◌∷◌, ◌++◌, eqb, take, drop, get_or}
 use Rattle.interp.specs.declared.Cursor.{Cursor}
 use Rattle.interp.specs.Values.{bool_word}
 use Rattle.interp.specs.Machine.{at}
 use Rattle.interp.specs.Calls.{Answered}
 use Rattle.interp.specs.Execute.{Executed}
+use Rattle.checkpoint.specs.Checkpoint.{same_of}
 use Rattle.magnetar_cpu.specs.Words.{left_after}
 
 -- the words of an image
@@ -32,6 +33,10 @@ numbers_of c = c.micro_pc.0 ∷ c.cycles ∷ bool_word c.halted ∷ c.output ∷
 -- the image of a cursor
 unfoldable pub image_of : Cursor → List ℕ
 image_of c = c.regs ++ c.ram ++ numbers_of c
+
+-- two images are the same checkpoint: the cursors are that they stand for
+abbrev pub same_images : List ℕ → List ℕ → Bool
+same_images a b = same_of (cursor_of a) (cursor_of b)
 
 -- an image after a call with this answer: the answer's cursor, or after a refusal the image as it was
 abbrev pub image_after : Answered → List ℕ → List ℕ

@@ -14,9 +14,8 @@ ghost use Rattle.interp.specs.Machine.{start_of};
 ghost use Rattle.interp.specs.Calls.{segment, padded, call_of};
 ghost use Rattle.interp.specs.Calls as calls;
 ghost use Rattle.interp.specs.Execute.{execute_of};
-ghost use Rattle.checkpoint.specs.Checkpoint.{same_of};
 ghost use Rattle.magnetar_cpu.specs.Words.{left_after, count_after, live_after, record_count_after};
-ghost use Rattle.magnetar_cpu.specs.Image.{image_words, cursor_of, image_of, image_after, executed_image};
+ghost use Rattle.magnetar_cpu.specs.Image.{image_words, cursor_of, image_of, same_images, image_after, executed_image};
 ghost use Rattle.magnetar_cpu.specs.Claims.{ImageLaws};
 
 use expand::MicroPc;
@@ -211,11 +210,10 @@ pub extern "C" fn magnetar_execute(
 
 // ---- images
 
-// 1 if the two cursors are the same checkpoint, else 0: micro_pc, halted, output, registers 1 to 63 and RAM agree. Any two
-// halted words but 0 agree.
+// 1 if the two cursors are the same checkpoint, else 0: every word but cycles agrees. Any two halted words but 0 agree.
 #[unsafe(no_mangle)]
 pub extern "C" fn magnetar_same(a: &[u64; IMAGE_WORDS], b: &[u64; IMAGE_WORDS]) -> u64
-    ensures { result ≡ bool_word (same_of (cursor_of a.now) (cursor_of b.now)) }
+    ensures { result ≡ bool_word (same_images a.now b.now) }
 {
     let first = read_cursor(a);
     let second = read_cursor(b);

@@ -147,9 +147,9 @@ uint64_t __wrap_magnetar_execute(const uint64_t *rows, size_t rows_len, const ui
 uint64_t __wrap_magnetar_same(const uint64_t *a, const uint64_t *b)
 {
     uint64_t answer = __real_magnetar_same(a, b);
-    answer = other("same counts register 0", answer, 0, a[0] != b[0]);
+    answer = other("same leaves out register 0", answer, 1, a[0] != b[0]);
     answer = other("same counts cycles", answer, 0, a[MAGNETAR_CURSOR_CYCLES] != b[MAGNETAR_CURSOR_CYCLES]);
-    answer = other("same counts next_fetch", answer, 0, a[MAGNETAR_CURSOR_NEXT_FETCH] != b[MAGNETAR_CURSOR_NEXT_FETCH]);
+    answer = other("same leaves out next_fetch", answer, 1, a[MAGNETAR_CURSOR_NEXT_FETCH] != b[MAGNETAR_CURSOR_NEXT_FETCH]);
     answer = other("same compares halted words", answer, 0, a[MAGNETAR_CURSOR_HALTED] != b[MAGNETAR_CURSOR_HALTED]);
     answer = other("same leaves out the last RAM word", answer, 1, a[319] != b[319]);
     answer = other("same leaves out register 63", answer, 1, a[63] != b[63]);

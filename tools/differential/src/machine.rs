@@ -96,14 +96,14 @@ pub fn write_log(log: &[CycleRecord], records: &mut [u64]) {
     }
 }
 
-/// The specification's list of what must agree.
+/// What must agree, as T-05 of 02 has it: every field but cycles.
 pub fn is_same(a: &Image, b: &Image) -> bool {
-    let agrees = |place: usize| a[place] == b[place];
-    agrees(Cursor::MICRO_PC)
-        && (a[Cursor::HALTED] != 0) == (b[Cursor::HALTED] != 0)
-        && agrees(Cursor::OUTPUT)
-        && (1..64).all(|register| agrees(Cursor::REGS.start + register))
-        && Cursor::RAM.into_iter().all(agrees)
+    let agrees = |place: usize| match place {
+        Cursor::CYCLES => true,
+        Cursor::HALTED => (a[place] != 0) == (b[place] != 0),
+        _ => a[place] == b[place],
+    };
+    (0..Cursor::WORDS).all(agrees)
 }
 
 /// An accepted execution by the reference: its records and its last cursor.
@@ -269,7 +269,7 @@ mod tests {
         for place in 0..Cursor::WORDS {
             let mut other = image;
             other[place] = 8;
-            assert_eq!(is_same(&image, &other), [0, 321, 322, 324].contains(&place));
+            assert_eq!(is_same(&image, &other), [321, 322].contains(&place));
         }
         let mut live = image;
         live[Cursor::HALTED] = 0;

@@ -1,10 +1,11 @@
 //! When two cursors are the same checkpoint.
 
 use crate::guarded::Guarded;
-use magnetar_cpu::{same_checkpoint, words, Cursor, Image};
+use crate::{shift_rows, with, ECALL};
+use magnetar_cpu::{padding, same_checkpoint, segment, words};
+use magnetar_cpu::{Cursor, Image, Refusal, MAX_TOTAL_CYCLES, RECORD_WORDS};
 
-/// The words that do not count.
-const LEFT_OUT: [usize; 3] = [0, Cursor::CYCLES, Cursor::NEXT_FETCH];
+type Call = fn(&[u64], &mut Cursor, u64, &mut [u64]) -> Result<(), Refusal>;
 
 /// Both ways round, with guard words, and in the safe form.
 fn same(a: &Image, b: &Image) -> bool {
@@ -28,20 +29,44 @@ fn a_difference_in_one_word() {
         for bit in [0, 31, 32, 63] {
             let mut other = image;
             other[place] ^= 1 << bit;
-            assert_eq!(same(&image, &other), LEFT_OUT.contains(&place), "{place}");
+            assert_eq!(same(&image, &other), place == Cursor::CYCLES, "{place}");
         }
     }
 }
 
-/// All that does not count, at once.
+/// Two checkpoints that are the same but for their cycles go on alike, whatever
+/// the buffers hold: in a register shift, past a refusal, and halted.
 #[test]
-fn differences_that_do_not_count() {
-    let image = [7; Cursor::WORDS];
-    let mut other = image;
-    LEFT_OUT.iter().for_each(|&place| other[place] = u64::MAX);
-    assert!(same(&image, &other));
-    other[63] = 8;
-    assert!(!same(&image, &other));
+fn the_same_go_on_alike() {
+    let rows: Vec<u64> = shift_rows().into_iter().chain([u64::from(ECALL)]).collect();
+    let mut image = with(&[(1, 3), (2, 5)]);
+    let mut a = Cursor::new(image);
+    image[Cursor::CYCLES] = MAX_TOTAL_CYCLES - 40;
+    let mut b = Cursor::new(image);
+    // Length and room: the second has too little, and the machine halts in the third.
+    let calls: [(Call, u64, usize); 4] = [
+        (segment, 3, 60),
+        (segment, 4, 67),
+        (segment, 5, 85),
+        (padding, 2, 40),
+    ];
+    for (call, length, room) in calls {
+        let (mut in_a, mut in_b) = (vec![7; room], vec![8; room]);
+        let answers = [
+            call(&rows, &mut a, length, &mut in_a),
+            call(&rows, &mut b, length, &mut in_b),
+        ];
+        assert_eq!(answers[0], answers[1]);
+        let written = answers[0].map_or(0, |()| RECORD_WORDS * length as usize);
+        assert_eq!(in_a[..written], in_b[..written]);
+        assert!(same_checkpoint(&a, &b) && a != b);
+    }
+    assert!(a.is_halted());
+    // Where one of them meets the limit they part.
+    let mut records = [0; 40 * RECORD_WORDS];
+    assert_eq!(segment(&rows, &mut a, 40, &mut records), Ok(()));
+    let refused = segment(&rows, &mut b, 40, &mut records);
+    assert_eq!(refused, Err(Refusal::TooManyCycles));
 }
 
 /// Any word but 0 is a halted machine.

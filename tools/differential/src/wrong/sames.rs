@@ -6,14 +6,8 @@ use crate::Comparing;
 use magnetar_cpu::{Cursor, Image};
 
 pub const WRONG: [Variant<OfSame>; 13] = [
-    ("register 0 counts", |before, _, answer| {
-        count(before, Cursor::REGS.start, answer);
-    }),
     ("cycles count", |before, _, answer| {
         count(before, Cursor::CYCLES, answer);
-    }),
-    ("next_fetch counts", |before, _, answer| {
-        count(before, Cursor::NEXT_FETCH, answer);
     }),
     ("halted words are compared as words", |before, _, answer| {
         count(before, Cursor::HALTED, answer);
@@ -26,6 +20,12 @@ pub const WRONG: [Variant<OfSame>; 13] = [
     }),
     ("output is left out", |before, _, answer| {
         leave_out(before, Cursor::OUTPUT, answer);
+    }),
+    ("next_fetch is left out", |before, _, answer| {
+        leave_out(before, Cursor::NEXT_FETCH, answer);
+    }),
+    ("register 0 is left out", |before, _, answer| {
+        leave_out(before, Cursor::REGS.start, answer);
     }),
     ("register 1 is left out", |before, _, answer| {
         leave_out(before, Cursor::REGS.start + 1, answer);

@@ -18,12 +18,11 @@ fn answer(a: &Image, b: &Image) -> u64 {
 fn every_word_and_every_bit() {
     let image: Image = std::array::from_fn(|place| place as u64 * 0x9e37_79b9_7f4a_7c15);
     assert_eq!(answer(&image, &image), 1);
-    let left_out = [0, Cursor::CYCLES, Cursor::NEXT_FETCH];
     for place in (0..Cursor::WORDS).filter(|&place| place != Cursor::HALTED) {
         for bit in 0..64 {
             let mut other = image;
             other[place] ^= 1 << bit;
-            let wanted = u64::from(left_out.contains(&place));
+            let wanted = u64::from(place == Cursor::CYCLES);
             assert_eq!(answer(&image, &other), wanted, "word {place}, bit {bit}");
         }
     }
