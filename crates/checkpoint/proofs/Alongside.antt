@@ -21,6 +21,7 @@ use Rattle.checkpoint.proofs.Laws.{same_is, is_same}
 
 -- ---- the number of a call
 
+-- one line before them: met, it is the first of both; else what comes behind it decides
 cond_but : (b : Bool) (n m x y : ℕ) → (x ≢ n → y ≢ n → x ≡ y) → cond b m x ≢ n → cond b m y ≢ n → cond b m x ≡ cond b m y
 cond_but true n m x y h p q = refl
 cond_but false n m x y h p q = h p q

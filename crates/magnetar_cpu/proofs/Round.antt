@@ -1,5 +1,5 @@
 -- An image is read back as the cursor that it was written for, so calls by images are calls by cursors. Assumes nothing.
-use mathlib.Core.Path.{◌≡◌, refl, sym, ap, ap₂, ◌∙◌}
+use mathlib.Core.Path.{◌≡◌, refl, sym, ap, ap₂, subst, ◌∙◌}
 use mathlib.Core.Bool.{Bool, true, false, not}
 use mathlib.Core.List.{List, [], ◌∷◌, ◌++◌}
 use Prim.Native.Nat.{ℕ, zero, suc, ◌+◌, ◌-◌, ◌≤◌}
@@ -87,7 +87,7 @@ written_back image h halted =
     ∙ ap (λ (l : List ℕ). take 320 image ++ l) (sym (last-words numbers 320 image h))
     ∙ take-append-drop 320 image)
 
--- ---- calls
+-- ---- a call
 
 -- the image that a call leaves has its words and stands for the cursor that the call returns
 record Left (image : List ℕ) (c : Cursor) : Type 0 where
@@ -106,58 +106,62 @@ left rows image k h =
     let s = laws.answer_sized rows (cursor_of image) k (image_sized image h) in
     unfold answer_of in settled-left (refusal_of rows (cursor_of image) k) rows image k h s
 
-cursors : (rows image : List ℕ) (ks : List Call) → length image ≡ image_words
-    → cursor_of (last_image rows image ks) ≡ last rows (cursor_of image) ks
-unfolding last_image last
-cursors rows image [] h = refl
-cursors rows image (k ∷ ks) h =
-    let l = left rows image k h in
-    cursors rows (image_after (answer_of rows (cursor_of image) k) image) ks l.size ∙ ap (λ c. last rows c ks) l.stands
+-- ---- a list of calls
 
-logs : (rows image : List ℕ) (ks : List Call) → length image ≡ image_words
-    → image_log rows image ks ≡ log rows (cursor_of image) ks
-unfolding image_log log
-logs rows image [] h = refl
-logs rows image (k ∷ ks) h =
-    let l = left rows image k h in
-    let a = answer_of rows (cursor_of image) k in
-    ap (λ r. added k a ++ r) (logs rows (image_after a image) ks l.size ∙ ap (λ c. log rows c ks) l.stands)
+-- from an image the calls ks go as from the cursor c: the last image stands for the last cursor, and logs and numbers are equal
+record Follows (rows image : List ℕ) (c : Cursor) (ks : List Call) : Type 0 where
+  cursors : cursor_of (last_image rows image ks) ≡ last rows c ks
+  logs : image_log rows image ks ≡ log rows c ks
+  refusals : image_numbers rows image ks ≡ numbers rows c ks
 
-calls_numbers : (rows image : List ℕ) (ks : List Call) → length image ≡ image_words
-    → image_numbers rows image ks ≡ numbers rows (cursor_of image) ks
-unfolding image_numbers numbers
-calls_numbers rows image [] h = refl
-calls_numbers rows image (k ∷ ks) h =
-    let l = left rows image k h in
+follows : (rows image : List ℕ) (ks : List Call) → length image ≡ image_words → Follows rows image (cursor_of image) ks
+unfolding last_image image_log image_numbers last log numbers
+follows rows image [] h = record { cursors = refl; logs = refl; refusals = refl }
+follows rows image (k ∷ ks) h =
     let a = answer_of rows (cursor_of image) k in
-    ap (λ r. a.number ∷ r) (calls_numbers rows (image_after a image) ks l.size ∙ ap (λ c. numbers rows c ks) l.stands)
+    let l = left rows image k h in
+    let later : Follows rows (image_after a image) a.cursor ks =
+    subst (λ c. Follows rows (image_after a image) c ks) l.stands (follows rows (image_after a image) ks l.size) in
+    record {
+      cursors = later.cursors;
+      logs = ap (λ r. added k a ++ r) later.logs;
+      refusals = ap (λ r. a.number ∷ r) later.refusals;
+    }
+
+start_kept : (input : List ℕ) → Kept (start_of input)
+start_kept input = kept-sized (start_of input) (laws.start_sized input)
+
+started : (rows input : List ℕ) (ks : List Call) → Follows rows (image_of (start_of input)) (start_of input) ks
+started rows input ks =
+    let image = image_of (start_of input) in
+    let kept = start_kept input in
+    subst (λ c. Follows rows image c ks) kept.read_back (follows rows image ks kept.sized)
 
 alongside : (rows a b : List ℕ) (js ks : List Call) → length a ≡ image_words → length b ≡ image_words → same_images a b ≡ true
     → MadeAlike js ks → meets_5 (image_numbers rows a js) ≡ false → meets_5 (image_numbers rows b ks) ≡ false
     → ImagesAlongside rows a b js ks
 alongside rows a b js ks ha hb same alike p q =
-    let numbers_a = calls_numbers rows a js ha in
-    let numbers_b = calls_numbers rows b ks hb in
-    let t = goes_on.alongside rows (cursor_of a) (cursor_of b) js ks same alike (ap meets_5 (sym numbers_a) ∙ p) (ap meets_5 (sym numbers_b) ∙ q) in
+    let fa = follows rows a js ha in
+    let fb = follows rows b ks hb in
+    let t = goes_on.alongside rows (cursor_of a) (cursor_of b) js ks same alike (ap meets_5 (sym fa.refusals) ∙ p) (ap meets_5 (sym fb.refusals) ∙ q) in
     record {
-      refusals = numbers_a ∙ t.refusals ∙ sym numbers_b;
-      logs = logs rows a js ha ∙ t.logs ∙ sym (logs rows b ks hb);
-      same = ap₂ same_of (cursors rows a js ha) (cursors rows b ks hb) ∙ t.same;
+      refusals = fa.refusals ∙ t.refusals ∙ sym fb.refusals;
+      logs = fa.logs ∙ t.logs ∙ sym fb.logs;
+      same = ap₂ same_of fa.cursors fb.cursors ∙ t.same;
     }
 
 -- ---- the whole
 
 pub image_laws : ImageLaws
 image_laws =
-    let start : (input : List ℕ) → Kept (start_of input) = λ input. kept-sized (start_of input) (laws.start_sized input) in
     record {
       kept = λ c regs ram. kept-sized c (record { regs = regs; ram = ram });
-      start = start;
+      start = start_kept;
       executed = λ rows input max buffer. kept-sized _ (laws.execute_sized rows input max buffer);
       written_back = written_back;
-      cursors = cursors;
-      logs = logs;
-      started_cursor = λ rows input ks. cursors rows _ ks (start input).sized ∙ ap (λ c. last rows c ks) (start input).read_back;
-      started_log = λ rows input ks. logs rows _ ks (start input).sized ∙ ap (λ c. log rows c ks) (start input).read_back;
+      cursors = λ rows image ks h. (follows rows image ks h).cursors;
+      logs = λ rows image ks h. (follows rows image ks h).logs;
+      started_cursor = λ rows input ks. (started rows input ks).cursors;
+      started_log = λ rows input ks. (started rows input ks).logs;
       alongside = alongside;
     }
