@@ -161,6 +161,7 @@ image_laws =
       written_back = written_back;
       cursors = λ rows image ks h. (follows rows image ks h).cursors;
       logs = λ rows image ks h. (follows rows image ks h).logs;
+      refusals = λ rows image ks h. (follows rows image ks h).refusals;
       started_cursor = λ rows input ks. (started rows input ks).cursors;
       started_log = λ rows input ks. (started rows input ks).logs;
       alongside = alongside;

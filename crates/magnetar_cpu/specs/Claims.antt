@@ -5,7 +5,7 @@ use Rattle.interp.specs.declared.Cursor.{Cursor}
 use Rattle.interp.specs.Machine.{start_of}
 use Rattle.interp.specs.Calls.{Call, answer_of, added, last, log}
 use Rattle.interp.specs.Execute.{execute_of}
-use Rattle.checkpoint.specs.Claims.{MadeAlike, meets_5}
+use Rattle.checkpoint.specs.Claims.{MadeAlike, numbers, meets_5}
 use Rattle.magnetar_cpu.specs.Image.{image_words, cursor_of, image_of, image_after, same_images}
 
 -- ---- a list of C calls, each of which gets the image that the one before left
@@ -49,11 +49,13 @@ pub record ImageLaws : Type 0 where
   pub executed : (rows input : List ℕ) (max : ℕ) (buffer : List ℕ) → Kept (execute_of rows input max buffer).cursor
   -- an image whose halted word is 0 or 1 is the image of its cursor
   pub written_back : (image : List ℕ) → length image ≡ image_words → get_or image 322 0 ≤ 1 → image_of (cursor_of image) ≡ image
-  -- a list of C calls from any image has the last cursor and the log of the same calls on cursors
+  -- a list of C calls from any image has the last cursor, the log and the numbers of the same calls on cursors
   pub cursors : (rows image : List ℕ) (calls : List Call) → length image ≡ image_words
       → cursor_of (last_image rows image calls) ≡ last rows (cursor_of image) calls
   pub logs : (rows image : List ℕ) (calls : List Call) → length image ≡ image_words
       → image_log rows image calls ≡ log rows (cursor_of image) calls
+  pub refusals : (rows image : List ℕ) (calls : List Call) → length image ≡ image_words
+      → image_numbers rows image calls ≡ numbers rows (cursor_of image) calls
   -- from the image of `magnetar_start` on these are the cursor and the log of demand 3
   pub started_cursor : (rows input : List ℕ) (calls : List Call)
       → cursor_of (last_image rows (image_of (start_of input)) calls) ≡ last rows (start_of input) calls
