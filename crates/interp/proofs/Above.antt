@@ -12,6 +12,7 @@ use Rattle.interp.proofs.values.Readings.{signed_claims}
 use Rattle.interp.proofs.executing.Executing.{execute_laws}
 use Rattle.interp.proofs.arms.Flags.{alu_flags_lt}
 use Rattle.interp.proofs.calls.Runs.{end-suc, adds, ends}
+use Rattle.interp.proofs.calls.Accepted.{all_accepted}
 use Rattle.interp.proofs.calls.Demand3.{demand3}
 use Rattle.interp.proofs.cycle.Uncounted.{not_counted}
 use Rattle.interp.proofs.refusals.Judged.{refused_not_0}
@@ -68,6 +69,7 @@ laws =
       not_counted = not_counted;
       adds = adds;
       ends = ends;
+      all_accepted = all_accepted;
     }
 
 -- the other claims that they use, from where they are proved

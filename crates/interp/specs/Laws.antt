@@ -1,11 +1,13 @@
 -- What the crates above use of cycles and calls beyond the text of their definitions. The function `cycle_laws` of src/lib.rt has
 -- the whole for its contract. Assumes nothing: these are definitions.
-use Rattle.std.specs.Prelude.{◌≡◌, ℕ, suc, ◌<◌, false, List, length, ◌==◌}
+use Rattle.std.specs.Prelude.{◌≡◌, ℕ, suc, ◌*◌, ◌^◌, ◌<◌, ◌≤◌, Bool, true, false, List, length, ◌==◌, nat_le, map, sum}
+use Rattle.std.specs.List.{list_all}
+use Rattle.refusal_table.specs.Table.{first_met}
 use Rattle.interp.specs.declared.Cursor.{Cursor}
 use Rattle.interp.specs.declared.Refusal.{Refusal}
 use Rattle.interp.specs.Machine.{start_of, flat}
 use Rattle.interp.specs.Cycle.{alu_flags, stores, Step, live, padding, cycle}
-use Rattle.interp.specs.Calls.{recorded, end, Call, turn, answer_of, counted, added, refusal_number}
+use Rattle.interp.specs.Calls.{recorded, end, Call, amount, lent, turn, row_lines, answer_of, counted, added, total, segments, refusal_number}
 use Rattle.interp.specs.Execute.{execute_of}
 
 -- 64 registers and 256 words of RAM
@@ -35,6 +37,14 @@ pub record Uncounted (s t : Step) : Type 0 where
   pub shown : s.shown ≡ t.shown
   pub after : uncounted s.after ≡ uncounted t.after
 
+-- rows that no call refuses
+abbrev pub RowsAccepted : List ℕ → Type 0
+RowsAccepted rows = first_met (row_lines rows) ≡ 0
+
+-- the buffer of each call has room for its records
+abbrev pub buffers_suffice : List Call → Bool
+buffers_suffice calls = list_all (λ k. nat_le (17 * amount k) (length (lent k))) calls
+
 -- the contract of `cycle_laws`
 pub record CycleLaws : Type 0 where
   -- the sizes: of the fresh cursor, after a live and a padding cycle, after a call, after execute
@@ -59,3 +69,7 @@ pub record CycleLaws : Type 0 where
       → added k (answer_of rows c k) ≡ flat (recorded (turn k rows) (counted (answer_of rows c k).number k) c)
   pub ends : (rows : List ℕ) (c : Cursor) (k : Call)
       → (answer_of rows c k).cursor ≡ end (turn k rows) (counted (answer_of rows c k).number k) c
+  -- segment calls from a fresh cursor on such rows, with such buffers and of at most 2^62 cycles in all, are all accepted: as many
+  -- cycles count as they ask for
+  pub all_accepted : (rows input : List ℕ) (calls : List Call) → RowsAccepted rows → segments calls ≡ true → buffers_suffice calls ≡ true
+      → sum (map amount calls) ≤ 2 ^ 62 → total rows (start_of input) calls ≡ sum (map amount calls)
