@@ -1,2 +1,4 @@
 pub mod Images
 pub mod Round
+pub mod Filling
+pub mod Dispatchers

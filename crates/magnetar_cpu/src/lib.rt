@@ -3,6 +3,7 @@
 // number a refusal of the papers, after which nothing behind any pointer has changed.
 #![tactic(auto)]
 
+mod dispatcher;
 mod index;
 mod report;
 
@@ -18,6 +19,7 @@ ghost use Rattle.magnetar_cpu.specs.Words.{left_after, count_after, live_after, 
 ghost use Rattle.magnetar_cpu.specs.Image.{image_words, cursor_of, image_of, same_images, image_after, executed_image};
 ghost use Rattle.magnetar_cpu.specs.Claims.{ImageLaws};
 
+pub use dispatcher::dispatcher_laws;
 use expand::MicroPc;
 use interp::{Cursor, Request};
 
