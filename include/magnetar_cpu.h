@@ -7,7 +7,9 @@
  * magnetar_padding). magnetar_execute does all of a run in one call. An index
  * says which record of a log was the latest to write each register and RAM word
  * (magnetar_index_build, magnetar_index_add). A report is a line of figures over
- * many runs (magnetar_report).
+ * many runs (magnetar_report). A dispatcher grants slices of one budget of cycles
+ * to sixteen callers in turn (magnetar_dispatcher_start, magnetar_dispatcher_add,
+ * magnetar_dispatcher_turn).
  *
  * Rules for pointers:
  * - A slice is a pointer and a length, counted in elements. All the elements
@@ -16,10 +18,13 @@
  *   is 0; nothing is read or written through it then. malloc(0) may give null,
  *   and so may data() of an empty std::vector, also after reserve(): where there
  *   is nothing to lend, give the address of a variable of that type.
- * - Behind every cursor pointer are MAGNETAR_CURSOR_WORDS words; behind count,
- *   record_count, live of magnetar_execute and length of magnetar_report is one.
- * - What a call writes overlaps nothing else that it is lent. Places that it
- *   only reads may overlap.
+ * - Behind every cursor pointer are MAGNETAR_CURSOR_WORDS words, behind every
+ *   dispatcher pointer MAGNETAR_DISPATCHER_WORDS; behind count, record_count, live
+ *   of magnetar_execute, length of magnetar_report, caller and slice of
+ *   magnetar_dispatcher_turn is one.
+ * - What a call writes overlaps nothing else that it is lent: caller and slice are
+ *   two words, and none of the dispatcher's. Places that it only reads may
+ *   overlap.
  * - What is only written needs no content before the call.
  *
  * Rules for answers, but for magnetar_is_expansion, magnetar_same and
@@ -91,6 +96,13 @@ extern "C" {
 #define MAGNETAR_BAD_RUNS 9
 /* A count in a list of a report is over MAGNETAR_MAX_COUNT. */
 #define MAGNETAR_BAD_COUNT 10
+/*
+ * The caller of an add is MAGNETAR_CALLERS or above, or the circle position of the
+ * dispatcher is.
+ */
+#define MAGNETAR_NO_CALLER 11
+/* The sum that the caller of an add wants would be over MAGNETAR_MAX_WANTED. */
+#define MAGNETAR_TOO_MUCH_WANTED 12
 
 /* ---- limits */
 
@@ -107,6 +119,10 @@ extern "C" {
 #define MAGNETAR_MAX_RUNS 65536
 /* Of each count in the lists of a report: 2^32. */
 #define MAGNETAR_MAX_COUNT ((uint64_t)1 << 32)
+/* Of the cycles that a turn of a dispatcher grants. */
+#define MAGNETAR_MAX_SLICE 4096
+/* Of the cycles that a caller wants after an add: 2^32. */
+#define MAGNETAR_MAX_WANTED ((uint64_t)1 << 32)
 /* The most rows that one program word gives. */
 #define MAGNETAR_ROWS_PER_WORD 6
 
@@ -195,6 +211,19 @@ extern "C" {
 
 /* The bytes of the longest line, with its line feed. */
 #define MAGNETAR_REPORT_BYTES 51
+
+/* ---- a dispatcher: what stands at which word */
+
+#define MAGNETAR_DISPATCHER_WORDS 18
+/* The callers are 0 to 15. */
+#define MAGNETAR_CALLERS 16
+
+/* The cycles that caller 0 wants; those of caller c stand c words on. */
+#define MAGNETAR_DISPATCHER_WANTED 0
+/* The circle position: the caller at which the next turn's search starts. */
+#define MAGNETAR_DISPATCHER_POSITION 16
+/* The cycles of the budget that are left. */
+#define MAGNETAR_DISPATCHER_BUDGET 17
 
 /* ---- functions */
 
@@ -317,7 +346,7 @@ uint64_t magnetar_same(const uint64_t a[MAGNETAR_CURSOR_WORDS],
  * past an array of this header's length. The same length does not mean the
  * same answers: a library before 0.2.0 gives 0 for slt and slti, and
  * magnetar_same of one before 0.3.0 answers 1 where register 0 or next_fetch
- * differs.
+ * differs. Nor does it tell MAGNETAR_DISPATCHER_WORDS: no function does.
  */
 MAGNETAR_MUST_USE
 uint64_t magnetar_cursor_words(void);
@@ -401,6 +430,77 @@ MAGNETAR_MUST_USE
 uint64_t magnetar_report(const uint64_t *live, size_t live_len,
                          const uint64_t *records, size_t records_len,
                          uint8_t *line, size_t line_len, uint64_t *length);
+
+/* ---- functions of the dispatcher */
+
+/*
+ * Callers 0 to 15 each add cycles that they want, and each turn grants a slice of
+ * one budget, shared by all, to the next of them that wants any, in circle order. A
+ * dispatcher is plain words and knows no machine: that a slice is run, by a
+ * magnetar_segment of that length on the caller's cursor, is its user's part.
+ *
+ * Take a list of adds and turns, refused ones included, from a fresh dispatcher of
+ * any budget, each with the words that the one before left, which nothing else
+ * writes:
+ * - The slices granted and the budget left are together the opening budget.
+ * - The slices of a caller and what it still wants are together its accepted adds.
+ * - A caller that wants any is granted a slice within 16 turns, if before the last
+ *   of them there is budget left.
+ * - The position stays below MAGNETAR_CALLERS, and no caller wants more than
+ *   MAGNETAR_MAX_WANTED.
+ *
+ * Run the slices of one caller, in order, as magnetar_segment calls of those lengths:
+ * the first on a fresh cursor, each further one on the cursor that the one before
+ * left, all with the same rows. If none is refused and the slices are together at
+ * most MAGNETAR_MAX_TOTAL_CYCLES, the joined log and the last cursor depend on that
+ * sum alone, not on how it was cut into slices.
+ */
+
+/*
+ * Writes a fresh dispatcher, all its words: the budget; nobody wants any; the
+ * circle starts at caller 0. Nothing is refused.
+ */
+void magnetar_dispatcher_start(uint64_t budget,
+                               uint64_t dispatcher[MAGNETAR_DISPATCHER_WORDS]);
+
+/*
+ * The caller wants `cycles` more than it did.
+ *
+ * Refused, in this order: 11 if caller or circle position is MAGNETAR_CALLERS or
+ * above; 12 if what the caller wants + cycles is over MAGNETAR_MAX_WANTED, also
+ * where cycles is 0.
+ *
+ * Written: what the caller wants,
+ * dispatcher[MAGNETAR_DISPATCHER_WANTED + caller].
+ */
+MAGNETAR_MUST_USE
+uint64_t magnetar_dispatcher_add(uint64_t dispatcher[MAGNETAR_DISPATCHER_WORDS],
+                                 uint64_t caller, uint64_t cycles);
+
+/*
+ * Grants a slice to the next caller that wants any, from the circle position on and
+ * after caller 15 from caller 0 on. The slice is the least of MAGNETAR_MAX_SLICE,
+ * what the caller wants and the budget. What the caller wants and the budget fall by
+ * it, and the position goes to the caller after this one.
+ *
+ * If the budget is 0 or nobody wants any, nothing is granted: the answer is
+ * MAGNETAR_ACCEPTED, *caller becomes MAGNETAR_CALLERS and *slice 0, and no word of
+ * the dispatcher changes. So compare *caller with MAGNETAR_CALLERS before it is
+ * used as the place of anything.
+ *
+ * No call gives a slice back. If the magnetar_segment call for it is refused, make
+ * that call again with what suffices, or go on from a copy of the dispatcher that
+ * was made before the turn.
+ *
+ * Refused: 11 if the circle position is MAGNETAR_CALLERS or above, also where there
+ * is nothing to grant. What a caller wants is not tested here: any number will do.
+ *
+ * Written: the caller that is granted the slice, *caller; its cycles, *slice; what
+ * the caller wants, the position and the budget.
+ */
+MAGNETAR_MUST_USE
+uint64_t magnetar_dispatcher_turn(uint64_t dispatcher[MAGNETAR_DISPATCHER_WORDS],
+                                  uint64_t *caller, uint64_t *slice);
 
 #ifdef __cplusplus
 }

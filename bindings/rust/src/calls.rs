@@ -230,8 +230,8 @@ pub fn same_checkpoint(a: &Cursor, b: &Cursor) -> bool {
 
 /// How many words the library takes an image to have. If that is not
 /// [`Cursor::WORDS`], the library linked is not of this crate's version. This can be
-/// called with any library; all functions that take or give a cursor compare the
-/// two first and panic if they differ, before the library is lent anything.
+/// called with any library; all functions that take or give a cursor or a dispatcher
+/// compare the two first and panic if they differ, before the library is lent anything.
 pub fn cursor_words() -> usize {
     usize::try_from(words::cursor_words()).expect("a count of words in memory")
 }

@@ -144,7 +144,7 @@ impl fmt::Debug for Cursor {
 }
 
 /// The words that are not 0, each with its number.
-struct NotZero<'a>(&'a [u64]);
+pub(crate) struct NotZero<'a>(pub(crate) &'a [u64]);
 
 impl fmt::Debug for NotZero<'_> {
     fn fmt(&self, f: &mut fmt::Formatter) -> fmt::Result {

@@ -57,12 +57,14 @@
 //! Of the records that were written, a [`LastWriterIndex`] says for each register and
 //! RAM word which was the latest to write it; calls with an index have refusals of
 //! their own, [`IndexRefusal`]. A [`Report`] is a line of figures over many runs, of
-//! their live counts and record counts; its refusals are [`ReportRefusal`].
+//! their live counts and record counts; its refusals are [`ReportRefusal`]. A
+//! [`Dispatcher`] grants slices of one budget of cycles to sixteen callers in turn; its
+//! refusals are [`DispatchRefusal`].
 //!
 //! Library and crate must be of one version: with a library whose cursor has
-//! another length ([`cursor_words`]) the functions that take or give a cursor
-//! panic. The same length does not mean the same answers: a library before 0.2.0
-//! gives 0 for slt and slti.
+//! another length ([`cursor_words`]) the functions that take or give a cursor or a
+//! dispatcher panic. The same length does not mean the same answers: a library before
+//! 0.2.0 gives 0 for slt and slti.
 //!
 //! The crate needs `core` only. The feature `alloc`, on by default, adds
 //! `Expansion`, which owns its rows; without it, [`expand`] writes into memory that
@@ -83,6 +85,7 @@ extern crate std;
 
 mod calls;
 mod cursor;
+mod dispatcher;
 #[cfg(feature = "alloc")]
 mod expansion;
 mod flags;
@@ -99,6 +102,9 @@ pub use calls::{
     Execution, MAX_EXECUTE_CYCLES, MAX_PROGRAM_WORDS, MAX_ROWS, MAX_TOTAL_CYCLES, ROWS_PER_WORD,
 };
 pub use cursor::{Cursor, Image};
+pub use dispatcher::{
+    DispatchRefusal, Dispatcher, Grant, CALLERS, DISPATCHER_WORDS, MAX_SLICE, MAX_WANTED,
+};
 #[cfg(feature = "alloc")]
 pub use expansion::Expansion;
 pub use flags::Flags;

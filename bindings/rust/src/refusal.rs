@@ -110,12 +110,13 @@ impl Refusal {
 /// that none of them has.
 ///
 /// ```
-/// use magnetar_cpu::{IndexRefusal, NotARefusal, Refusal, ReportRefusal};
+/// use magnetar_cpu::{DispatchRefusal, IndexRefusal, NotARefusal, Refusal, ReportRefusal};
 ///
 /// assert_eq!(Refusal::try_from(6), Ok(Refusal::Short));
 /// assert_eq!(Refusal::try_from(0), Err(NotARefusal(0)));
 /// assert_eq!(IndexRefusal::try_from(6), Ok(IndexRefusal::Short));
 /// assert_eq!(ReportRefusal::try_from(9), Ok(ReportRefusal::BadRuns));
+/// assert_eq!(DispatchRefusal::try_from(11), Ok(DispatchRefusal::NoCaller));
 /// assert_eq!(Refusal::try_from(7), Err(NotARefusal(7)));
 /// ```
 #[derive(Clone, Copy, Debug, PartialEq, Eq, Hash)]

@@ -2,18 +2,22 @@
 //!
 //! 0 is accepted; any other answer is the number of a [`Refusal`](crate::Refusal),
 //! of an index that of an [`IndexRefusal`](crate::IndexRefusal), of a report that of a
-//! [`ReportRefusal`](crate::ReportRefusal), and then no word and no byte has changed.
-//! The functions of the crate's root are made of these and are easier to use.
+//! [`ReportRefusal`](crate::ReportRefusal), of a dispatcher that of a
+//! [`DispatchRefusal`](crate::DispatchRefusal), and then no word and no byte has
+//! changed. The functions of the crate's root are made of these and are easier to use.
 //!
 //! All `unsafe` code of the crate is here. What the library asks of its caller
 //! is what Rust asks of slices and arrays: pointers that are not null and
 //! aligned, also where a length is 0, and nothing written that is lent twice.
 //! The length of an image is not handed over: the functions that lend one compare
 //! [`Cursor::WORDS`](crate::Cursor::WORDS) with [`cursor_words`] first, and panic if
-//! they differ.
+//! they differ. The functions that lend the words of a dispatcher do the same: the
+//! library tells no other length.
 
-use crate::Image;
+use crate::{Image, DISPATCHER_WORDS};
 use image::{Lent, Shown};
+
+type LentDispatcher<'a> = Lent<'a, DISPATCHER_WORDS>;
 
 unsafe extern "C" {
     fn magnetar_expand(
@@ -78,22 +82,30 @@ unsafe extern "C" {
         line_len: usize,
         length: *mut u64,
     ) -> u64;
+    fn magnetar_dispatcher_start(budget: u64, dispatcher: LentDispatcher);
+    fn magnetar_dispatcher_add(dispatcher: LentDispatcher, caller: u64, cycles: u64) -> u64;
+    fn magnetar_dispatcher_turn(
+        dispatcher: LentDispatcher,
+        caller: *mut u64,
+        slice: *mut u64,
+    ) -> u64;
     safe fn magnetar_cursor_words() -> u64;
 }
 
-/// Pointers to images. The library's functions take no others, and one is made only
-/// after the lengths have been compared: what it points to has the words that the
-/// library takes a cursor to have.
+/// Pointers to images and to the words of dispatchers. The library's functions take no
+/// others, and one is made only after the lengths of a cursor have been compared: an
+/// image has the words that the library takes a cursor to have. How many it takes a
+/// dispatcher to have it does not tell, but one with other cursors is of another version.
 mod image {
     use super::magnetar_cursor_words;
     use crate::{Cursor, Image};
 
-    /// An image that the library may write.
+    /// An image, or the words of a dispatcher, that the library may write.
     #[repr(transparent)]
-    pub struct Lent<'a>(&'a mut Image);
+    pub struct Lent<'a, const WORDS: usize = { Cursor::WORDS }>(&'a mut [u64; WORDS]);
 
-    impl<'a> Lent<'a> {
-        pub fn new(image: &'a mut Image) -> Self {
+    impl<'a, const WORDS: usize> Lent<'a, WORDS> {
+        pub fn new(image: &'a mut [u64; WORDS]) -> Self {
             compare_lengths();
             Lent(image)
         }
@@ -258,6 +270,32 @@ pub fn report(live: &[u64], records: &[u64], line: &mut [u8], length: &mut u64) 
             length,
         )
     }
+}
+
+/// [`Dispatcher::start`](crate::Dispatcher::start): every word of the dispatcher is
+/// written. There is no answer, because nothing is refused.
+pub fn dispatcher_start(budget: u64, dispatcher: &mut [u64; DISPATCHER_WORDS]) {
+    // SAFETY: the words are those of a dispatcher of this version, of which the library
+    // is as far as it tells (`Lent`); they are borrowed until the call returns.
+    unsafe { magnetar_dispatcher_start(budget, Lent::new(dispatcher)) }
+}
+
+/// [`Dispatcher::add`](crate::Dispatcher::add).
+pub fn dispatcher_add(dispatcher: &mut [u64; DISPATCHER_WORDS], caller: u64, cycles: u64) -> u64 {
+    // SAFETY: as for `dispatcher_start`.
+    unsafe { magnetar_dispatcher_add(Lent::new(dispatcher), caller, cycles) }
+}
+
+/// [`Dispatcher::turn`](crate::Dispatcher::turn): the caller and the cycles of the grant
+/// go to `caller` and `slice`, [`CALLERS`](crate::CALLERS) and 0 if nothing is granted.
+pub fn dispatcher_turn(
+    dispatcher: &mut [u64; DISPATCHER_WORDS],
+    caller: &mut u64,
+    slice: &mut u64,
+) -> u64 {
+    // SAFETY: as for `dispatcher_start`, and the other pointers are those of words,
+    // borrowed and written to by nothing else until the call returns.
+    unsafe { magnetar_dispatcher_turn(Lent::new(dispatcher), caller, slice) }
 }
 
 /// The words that the library takes a cursor's image to have. This can be called

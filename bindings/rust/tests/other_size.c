@@ -1,17 +1,27 @@
 /*
- * A library of another version: its cursor has one word more than this one's.
- * Calls that may write a cursor write all its words.
+ * A library of another version: its cursor and its dispatcher have one word more than
+ * this one's. Calls that may write one of them write all its words.
  */
 #include "magnetar_cpu.h"
 
 #define WORDS (MAGNETAR_CURSOR_WORDS + 1)
 
-static uint64_t write_all(uint64_t *cursor)
+static uint64_t write_words(uint64_t *to, size_t count)
 {
-    for (size_t word = 0; word < WORDS; word++) {
-        cursor[word] = UINT64_MAX - word;
+    for (size_t word = 0; word < count; word++) {
+        to[word] = UINT64_MAX - word;
     }
     return MAGNETAR_ACCEPTED;
+}
+
+static uint64_t write_all(uint64_t *cursor)
+{
+    return write_words(cursor, WORDS);
+}
+
+static uint64_t write_dispatcher(uint64_t *dispatcher)
+{
+    return write_words(dispatcher, MAGNETAR_DISPATCHER_WORDS + 1);
 }
 
 uint64_t magnetar_cursor_words(void)
@@ -95,4 +105,22 @@ uint64_t magnetar_report(const uint64_t *live, size_t live_len,
     (void)live, (void)live_len, (void)records, (void)records_len;
     (void)line, (void)line_len, (void)length;
     return MAGNETAR_BAD_RUNS;
+}
+
+void magnetar_dispatcher_start(uint64_t budget, uint64_t *dispatcher)
+{
+    (void)budget;
+    write_dispatcher(dispatcher);
+}
+
+uint64_t magnetar_dispatcher_add(uint64_t *dispatcher, uint64_t caller, uint64_t cycles)
+{
+    (void)caller, (void)cycles;
+    return write_dispatcher(dispatcher);
+}
+
+uint64_t magnetar_dispatcher_turn(uint64_t *dispatcher, uint64_t *caller, uint64_t *slice)
+{
+    *caller = *slice = 1;
+    return write_dispatcher(dispatcher);
 }

@@ -1,5 +1,5 @@
-//! Every call that lends an image, with a library whose cursor may have another
-//! length: it panics exactly then, and leaves what it was lent.
+//! Every call that lends an image or the words of a dispatcher, with a library whose
+//! cursor may have another length: it panics exactly then, and leaves what it was lent.
 //!
 //! `building.rs` runs this once more with such a library, that of `other_size.c`,
 //! and says in a variable how many words it has.
@@ -12,7 +12,7 @@ mod guarded;
 
 use guarded::Guarded;
 use magnetar_cpu::{cursor_words, execute, padding, same_checkpoint, segment, start, words};
-use magnetar_cpu::{Cursor, RECORD_WORDS};
+use magnetar_cpu::{Cursor, Dispatcher, DISPATCHER_WORDS, RECORD_WORDS};
 use std::env;
 use std::fmt::Debug;
 use std::panic::{catch_unwind, AssertUnwindSafe};
@@ -104,6 +104,16 @@ fn calls_of_words() {
         let image = lent.cursor.image_mut();
         words::same(image, image)
     });
+    let dispatcher = Guarded::new(&[0; DISPATCHER_WORDS]);
+    check(dispatcher.clone(), |lent| {
+        words::dispatcher_start(7, lent.image_mut())
+    });
+    check(dispatcher.clone(), |lent| {
+        words::dispatcher_add(lent.image_mut(), 0, 1)
+    });
+    check((dispatcher, 7, 7), |(lent, caller, slice)| {
+        words::dispatcher_turn(lent.image_mut(), caller, slice)
+    });
 }
 
 #[test]
@@ -121,4 +131,9 @@ fn safe_calls() {
     check(SafelyLent::new(), |lent| {
         same_checkpoint(&lent.cursors[0], &lent.cursors[1])
     });
+    // As for `start`.
+    check((), |_| Dispatcher::start(7));
+    let dispatcher = Dispatcher::new([0; DISPATCHER_WORDS]);
+    check(dispatcher.clone(), |lent| lent.add(0, 1));
+    check(dispatcher, |lent| lent.turn());
 }

@@ -3,6 +3,7 @@
 
 #![forbid(unsafe_code)]
 
+mod dispatching;
 mod executing;
 mod expanding;
 mod guarded;

@@ -1,9 +1,11 @@
 //! Refusals, limits, places and flags have the names and numbers of the C header.
 
-use magnetar_cpu::{Cursor, IndexRefusal, Record, Refusal, ReportRefusal};
-use magnetar_cpu::{INDEX_PLACES, NONE, RECORD_WORDS, REPORT_BYTES, ROWS_PER_WORD};
+use magnetar_cpu::{Cursor, Dispatcher, Record};
+use magnetar_cpu::{DispatchRefusal, IndexRefusal, Refusal, ReportRefusal};
+use magnetar_cpu::{CALLERS, DISPATCHER_WORDS, INDEX_PLACES, NONE, RECORD_WORDS};
 use magnetar_cpu::{MAX_COUNT, MAX_EXECUTE_CYCLES, MAX_PROGRAM_WORDS, MAX_RECORDS};
-use magnetar_cpu::{MAX_ROWS, MAX_RUNS, MAX_TOTAL_CYCLES};
+use magnetar_cpu::{MAX_ROWS, MAX_RUNS, MAX_SLICE, MAX_TOTAL_CYCLES, MAX_WANTED};
+use magnetar_cpu::{REPORT_BYTES, ROWS_PER_WORD};
 use std::fmt::Debug;
 
 const HEADER: &str = include_str!("../../../../include/magnetar_cpu.h");
@@ -42,6 +44,9 @@ fn refusals_have_the_names_of_the_header() {
     for refusal in ReportRefusal::ALL {
         assert_refusal(refusal, refusal.number());
     }
+    for refusal in DispatchRefusal::ALL {
+        assert_refusal(refusal, refusal.number());
+    }
 }
 
 #[test]
@@ -50,11 +55,13 @@ fn limits_have_the_names_of_the_header() {
     assert_defined("MAX_ROWS", &MAX_ROWS.to_string());
     assert_defined("ROWS_PER_WORD", &ROWS_PER_WORD.to_string());
     assert_defined("MAX_RUNS", &MAX_RUNS.to_string());
+    assert_defined("MAX_SLICE", &MAX_SLICE.to_string());
     for (name, limit) in [
         ("MAX_TOTAL_CYCLES", MAX_TOTAL_CYCLES),
         ("MAX_EXECUTE_CYCLES", MAX_EXECUTE_CYCLES),
         ("MAX_RECORDS", MAX_RECORDS),
         ("MAX_COUNT", MAX_COUNT),
+        ("MAX_WANTED", MAX_WANTED),
     ] {
         assert!(limit.is_power_of_two());
         assert_defined(name, &format!("((uint64_t)1 << {})", limit.ilog2()));
@@ -87,6 +94,14 @@ fn places_have_the_names_of_the_header() {
     assert_defined("NONE", "UINT64_MAX");
     assert_eq!(NONE, u64::MAX);
     assert_defined("REPORT_BYTES", &REPORT_BYTES.to_string());
+    assert_defined("CALLERS", &CALLERS.to_string());
+    let dispatcher = named!(Dispatcher: POSITION BUDGET);
+    let wanted = [("WANTED", Dispatcher::WANTED.start)];
+    for (name, place) in dispatcher.into_iter().chain(wanted) {
+        assert_defined(&format!("DISPATCHER_{name}"), &place.to_string());
+    }
+    assert_defined("DISPATCHER_WORDS", &DISPATCHER_WORDS.to_string());
+    assert_eq!(Dispatcher::WANTED.len(), CALLERS);
 }
 
 #[test]
