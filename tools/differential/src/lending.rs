@@ -2,6 +2,7 @@
 //! model.
 
 mod comparing;
+mod dispatching;
 mod executing;
 mod expanding;
 mod indexing;
@@ -12,6 +13,7 @@ mod starting;
 
 use crate::Call;
 pub use comparing::Comparing;
+pub use dispatching::{Dispatching, Step};
 pub use executing::Executing;
 pub use expanding::Expanding;
 pub use indexing::Indexing;
@@ -33,10 +35,13 @@ pub enum Function {
     IndexBuild,
     IndexAdd,
     Report,
+    DispatcherStart,
+    DispatcherAdd,
+    DispatcherTurn,
 }
 
 impl Function {
-    pub const ALL: [Self; 10] = [
+    pub const ALL: [Self; 13] = [
         Self::Expand,
         Self::IsExpansion,
         Self::Start,
@@ -47,6 +52,9 @@ impl Function {
         Self::IndexBuild,
         Self::IndexAdd,
         Self::Report,
+        Self::DispatcherStart,
+        Self::DispatcherAdd,
+        Self::DispatcherTurn,
     ];
 
     pub fn name(self) -> &'static str {
@@ -61,16 +69,19 @@ impl Function {
             Function::IndexBuild => "index_build",
             Function::IndexAdd => "index_add",
             Function::Report => "report",
+            Function::DispatcherStart => "dispatcher_start",
+            Function::DispatcherAdd => "dispatcher_add",
+            Function::DispatcherTurn => "dispatcher_turn",
         }
     }
 
-    /// The numbers that it can answer. A fresh cursor has no answer, which
-    /// counts as 0.
+    /// The numbers that it can answer. A fresh cursor or dispatcher has no answer,
+    /// which counts as 0.
     pub fn answers(self) -> &'static [u64] {
         match self {
             Function::Expand => &[0, 1, 2, 6],
             Function::IsExpansion | Function::Same => &[0, 1],
-            Function::Start => &[0],
+            Function::Start | Function::DispatcherStart => &[0],
             Function::Segment => &[0, 1, 2, 3, 4, 5, 6],
             Function::Padding => &[0, 1, 2, 3, 4, 6],
             Function::Execute => &[0, 1, 2, 3, 5, 6],
@@ -78,6 +89,8 @@ impl Function {
             Function::IndexBuild => &[0, 6, 7, 8],
             Function::IndexAdd => &[0, 5, 6, 7, 8],
             Function::Report => &[0, 6, 9, 10],
+            Function::DispatcherAdd => &[0, 11, 12],
+            Function::DispatcherTurn => &[0, 11],
         }
     }
 }
@@ -143,6 +156,7 @@ pub enum Lending<'a> {
     Same(Comparing),
     Index(Indexing),
     Report(Reporting),
+    Dispatch(Dispatching),
 }
 
 impl Lending<'_> {
@@ -162,6 +176,11 @@ impl Lending<'_> {
                 Some(_) => Function::IndexAdd,
             },
             Lending::Report(_) => Function::Report,
+            Lending::Dispatch(dispatching) => match dispatching.step {
+                Step::Start { .. } => Function::DispatcherStart,
+                Step::Add { .. } => Function::DispatcherAdd,
+                Step::Turn => Function::DispatcherTurn,
+            },
         }
     }
 }
@@ -177,6 +196,7 @@ impl Lend for Lending<'_> {
             Lending::Same(lent) => lent.library(),
             Lending::Index(lent) => lent.library(),
             Lending::Report(lent) => lent.library(),
+            Lending::Dispatch(lent) => lent.library(),
         }
     }
 
@@ -190,6 +210,7 @@ impl Lend for Lending<'_> {
             Lending::Same(lent) => lent.model(),
             Lending::Index(lent) => lent.model(),
             Lending::Report(lent) => lent.model(),
+            Lending::Dispatch(lent) => lent.model(),
         }
     }
 
@@ -203,6 +224,7 @@ impl Lend for Lending<'_> {
             (Lending::Same(found), Lending::Same(wanted)) => found.compare(wanted),
             (Lending::Index(found), Lending::Index(wanted)) => found.compare(wanted),
             (Lending::Report(found), Lending::Report(wanted)) => found.compare(wanted),
+            (Lending::Dispatch(found), Lending::Dispatch(wanted)) => found.compare(wanted),
             _ => panic!("calls of two kinds"),
         }
     }
@@ -217,6 +239,7 @@ impl Lend for Lending<'_> {
             Lending::Same(lent) => lent.about(),
             Lending::Index(lent) => lent.about(),
             Lending::Report(lent) => lent.about(),
+            Lending::Dispatch(lent) => lent.about(),
         }
     }
 }

@@ -6,6 +6,8 @@
 
 mod counts;
 mod damage;
+mod dispatch;
+mod dispatchers;
 mod figures;
 mod index;
 mod lending;
@@ -15,12 +17,13 @@ mod logs;
 mod machine;
 mod programs;
 mod random;
+mod reasons;
 mod report;
 mod rounds;
 mod wrong;
 
-pub use lending::{check, Comparing, Executing, Expanding, Indexing, Judging};
-pub use lending::{Function, Lend, Lending, Modelled, Reporting, Running, Starting};
+pub use lending::{check, Comparing, Dispatching, Executing, Expanding, Indexing, Judging};
+pub use lending::{Function, Lend, Lending, Modelled, Reporting, Running, Starting, Step};
 pub use lent::{Lent, GUARDS};
 pub use machine::{image_of, Call, Rom};
 pub use programs::{known_word, live_word, ordinary_word, program, register_shift, stage_word};

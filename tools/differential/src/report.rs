@@ -1,23 +1,26 @@
 //! What a run has compared, and what differs.
 
+use crate::reasons::REASONS;
 use crate::rounds::run_round;
 use crate::{Function, Lend, Lending, LIMITS};
 use std::fmt;
 
 /// The answers of a call are numbers from 0 on.
-pub const ANSWERS: usize = 11;
+pub const ANSWERS: usize = 13;
 /// How many differences are told.
 const TOLD: usize = 5;
 /// From this many rounds on, every answer that a function can give must come up:
 /// a comparison says nothing about an answer that never did.
 const FULL_RUN: u64 = 1000;
 
-/// The answers that were compared, by function, and the calls that differ.
+/// The answers that were compared, by function, the dispatcher's also by reason, and
+/// the calls that differ.
 pub struct Report {
     seed: u64,
     /// Of random calls.
     rounds: u64,
     answers: [[u64; ANSWERS]; Function::ALL.len()],
+    reasons: [u64; REASONS.len()],
     differ: u64,
     first: Vec<String>,
 }
@@ -28,6 +31,7 @@ impl Report {
             seed,
             rounds: 0,
             answers: Default::default(),
+            reasons: Default::default(),
             differ: 0,
             first: Vec::new(),
         }
@@ -42,6 +46,12 @@ impl Report {
             place += 1;
             let function = made.before.function();
             self.answers[function as usize][made.answer as usize] += 1;
+            if let Lending::Dispatch(lent) = &made.before {
+                let counts = self.reasons.iter_mut().zip(REASONS);
+                counts.for_each(|(count, (_, is_of_it))| {
+                    *count += u64::from(is_of_it(lent, made.answer));
+                });
+            }
             let mut found = made.before.clone();
             let answer = call(&mut found);
             if let Err(error) = made.compare(answer, &found) {
@@ -82,7 +92,7 @@ impl Report {
         Ok(())
     }
 
-    /// What a function can answer and never has.
+    /// What a function can answer and never has, and the reasons that no call had.
     fn never(&self) -> Vec<String> {
         let mut never = Vec::new();
         for function in Function::ALL {
@@ -91,18 +101,22 @@ impl Report {
             let missing = missing.filter(|&&answer| counts[answer as usize] == 0);
             never.extend(missing.map(|answer| format!("{} {answer}", function.name())));
         }
+        let missing = REASONS.iter().zip(self.reasons);
+        let missing = missing.filter(|(_, count)| *count == 0);
+        never.extend(missing.map(|((name, _), _)| name.to_string()));
         never
     }
 }
 
-/// The table of answers. What a function cannot answer is a dash.
+/// The table of answers, in which what a function cannot answer is a dash, and the
+/// reasons.
 impl fmt::Display for Report {
     fn fmt(&self, f: &mut fmt::Formatter) -> fmt::Result {
-        write!(f, "{:<13}", "answer")?;
+        write!(f, "{:<17}", "answer")?;
         (0..ANSWERS).try_for_each(|answer| write!(f, "{answer:>9}"))?;
         writeln!(f)?;
         for function in Function::ALL {
-            write!(f, "{:<13}", function.name())?;
+            write!(f, "{:<17}", function.name())?;
             for (answer, &count) in self.answers[function as usize].iter().enumerate() {
                 match count == 0 && !function.answers().contains(&(answer as u64)) {
                     true => write!(f, "{:>9}", "-")?,
@@ -110,6 +124,9 @@ impl fmt::Display for Report {
                 }
             }
             writeln!(f)?;
+        }
+        for ((name, _), count) in REASONS.iter().zip(self.reasons) {
+            writeln!(f, "{name:<44}{count:>9}")?;
         }
         Ok(())
     }
@@ -157,14 +174,14 @@ mod tests {
     #[test]
     fn the_table_of_answers() {
         let mut report = Report::new(1);
-        report.answers[Function::Execute as usize] = [20, 1, 0, 3, 0, 5, 6, 0, 0, 0, 0];
+        report.answers[Function::Execute as usize] = [20, 1, 0, 3, 0, 5, 6, 0, 0, 0, 0, 0, 0];
         let table = report.to_string();
         let lines: Vec<&str> = table.lines().collect();
-        assert_eq!(lines.len(), 1 + Function::ALL.len());
+        assert_eq!(lines.len(), 1 + Function::ALL.len() + REASONS.len());
         let words = |line: &str| line.split_whitespace().map(str::to_string).collect();
         let [head, execute, start]: [Vec<String>; 3] = [lines[0], lines[6], lines[3]].map(words);
-        assert_eq!(head.join(" "), "answer 0 1 2 3 4 5 6 7 8 9 10");
-        assert_eq!(execute.join(" "), "execute 20 1 0 3 - 5 6 - - - -");
-        assert_eq!(start.join(" "), "start 0 - - - - - - - - - -");
+        assert_eq!(head.join(" "), "answer 0 1 2 3 4 5 6 7 8 9 10 11 12");
+        assert_eq!(execute.join(" "), "execute 20 1 0 3 - 5 6 - - - - - -");
+        assert_eq!(start.join(" "), "start 0 - - - - - - - - - - - -");
     }
 }

@@ -1,10 +1,13 @@
 //! Rounds of random calls. Seed and number alone decide what is in a round: the
 //! calls go on from what the model leaves, whatever else is compared with it.
 
+use crate::dispatch::Words;
 use crate::limits::run_limits;
 use crate::programs::{any_word, program};
-use crate::{counts, figures, logs, random, Call, Expansion, Lending, Modelled, Rng, Rom};
-use crate::{Comparing, Executing, Expanding, Indexing, Judging, Reporting, Running, Starting};
+use crate::{counts, dispatchers, figures, logs, random};
+use crate::{Call, Expansion, Lending, Modelled, Rng, Rom, Step};
+use crate::{Comparing, Dispatching, Executing, Expanding, Indexing, Judging};
+use crate::{Reporting, Running, Starting};
 use magnetar_cpu::{Image, INDEX_PLACES, RECORD_WORDS};
 
 /// What is handed every call of a round.
@@ -19,6 +22,8 @@ const MOST_CALLS: usize = 24;
 const LONGEST: usize = 60;
 /// The longest program whose rows are judged by themselves.
 const LONGEST_JUDGED: usize = 12;
+/// The most adds and turns of a list on one dispatcher.
+const MOST_STEPS: usize = 40;
 
 /// Makes the calls of a round by the model and hands each to `tell`.
 pub fn run_round(seed: u64, number: u64, tell: Tell) {
@@ -54,7 +59,7 @@ struct Round {
 impl Round {
     fn call(&mut self, tell: Tell) {
         let rng = &mut self.rng;
-        let kind = rng.below(20);
+        let kind = rng.below(22);
         // Some calls get other rows than the rest of the round.
         let damaged = (rng.below(12) == 0).then(|| random::damaged(&self.rom.rows, rng));
         let damaged = damaged.map(Rom::new);
@@ -67,7 +72,8 @@ impl Round {
             11..14 => execute(rom, rng, tell),
             14..16 => compare(&self.image, rng, tell),
             16..18 => index(&self.log, rng, tell),
-            _ => report(rng, tell),
+            18..20 => report(rng, tell),
+            _ => dispatch(rng, tell),
         }
     }
 }
@@ -161,6 +167,30 @@ fn report(rng: &mut Rng, tell: Tell) {
     tell(&Modelled::new(Lending::Report(reporting)));
 }
 
+/// An add or a turn of any dispatcher, or a list of them from a fresh one.
+fn dispatch(rng: &mut Rng, tell: Tell) {
+    let mut words = dispatchers::words(rng);
+    let mut steps = 1;
+    if rng.below(4) == 0 {
+        let budget = dispatchers::amount(rng);
+        words = step(Step::Start { budget }, &words, rng, tell);
+        steps = rng.below(MOST_STEPS);
+    }
+    for _ in 0..steps {
+        words = step(dispatchers::step(&words, rng), &words, rng, tell);
+    }
+}
+
+/// Gives the words that the model leaves.
+fn step(step: Step, words: &Words, rng: &mut Rng, tell: Tell) -> Words {
+    let modelled = Modelled::new(Lending::Dispatch(Dispatching::new(step, words, rng)));
+    tell(&modelled);
+    let Lending::Dispatch(after) = modelled.after else {
+        unreachable!("a call stays of its kind");
+    };
+    *after.words()
+}
+
 #[cfg(test)]
 mod tests {
     use super::*;
@@ -188,6 +218,7 @@ mod tests {
             Lending::Same(lent) => lent.b.all.clone(),
             Lending::Index(lent) => lent.index.all.clone(),
             Lending::Report(lent) => lent.live.all.clone(),
+            Lending::Dispatch(lent) => lent.dispatcher.all.clone(),
         }
     }
 

@@ -3,6 +3,7 @@
 
 mod calls;
 mod cycles;
+mod dispatchers;
 mod executions;
 mod expansions;
 mod indexes;
@@ -13,8 +14,9 @@ mod sames;
 mod starts;
 
 use crate::rounds::run_round;
-use crate::{Comparing, Executing, Expanding, Indexing, Judging, Reporting, Running, Starting};
+use crate::{Comparing, Dispatching, Executing, Expanding, Indexing, Judging};
 use crate::{Function, Lending, Modelled, LIMITS};
+use crate::{Reporting, Running, Starting};
 use cycles::Cycle;
 
 /// A variant's name, and how it changes what the model has done. A change is
@@ -30,6 +32,7 @@ type OfExecute = fn(&Executing, &mut Executing, &mut u64);
 type OfSame = fn(&Comparing, &mut Comparing, &mut u64);
 type OfIndex = fn(&Indexing, &mut Indexing, &mut u64);
 type OfReport = fn(&Reporting, &mut Reporting, &mut u64);
+type OfDispatcher = fn(&Dispatching, &mut Dispatching, &mut u64);
 
 #[derive(Clone, Copy)]
 enum Change {
@@ -42,6 +45,9 @@ enum Change {
     Same(OfSame),
     Index(OfIndex),
     Report(OfReport),
+    DispatcherStart(OfDispatcher),
+    DispatcherAdd(OfDispatcher),
+    DispatcherTurn(OfDispatcher),
 }
 
 impl Change {
@@ -55,6 +61,9 @@ impl Change {
             Change::Same(_) => &[Function::Same],
             Change::Index(_) => &[Function::IndexBuild, Function::IndexAdd],
             Change::Report(_) => &[Function::Report],
+            Change::DispatcherStart(_) => &[Function::DispatcherStart],
+            Change::DispatcherAdd(_) => &[Function::DispatcherAdd],
+            Change::DispatcherTurn(_) => &[Function::DispatcherTurn],
         }
     }
 
@@ -90,6 +99,13 @@ impl Change {
             (Change::Report(change), Lending::Report(before), Lending::Report(after)) => {
                 change(before, after, answer);
             }
+            (
+                Change::DispatcherStart(change)
+                | Change::DispatcherAdd(change)
+                | Change::DispatcherTurn(change),
+                Lending::Dispatch(before),
+                Lending::Dispatch(after),
+            ) => change(before, after, answer),
             _ => (),
         }
     }
@@ -153,6 +169,9 @@ fn variants() -> Vec<Noticed> {
     all.extend(sames::WRONG.map(|variant| Noticed::new(variant, Change::Same)));
     all.extend(indexes::WRONG.map(|variant| Noticed::new(variant, Change::Index)));
     all.extend(reports::WRONG.map(|variant| Noticed::new(variant, Change::Report)));
+    all.extend(dispatchers::STARTS.map(|variant| Noticed::new(variant, Change::DispatcherStart)));
+    all.extend(dispatchers::ADDS.map(|variant| Noticed::new(variant, Change::DispatcherAdd)));
+    all.extend(dispatchers::TURNS.map(|variant| Noticed::new(variant, Change::DispatcherTurn)));
     all
 }
 
@@ -210,6 +229,9 @@ mod tests {
             Change::Same(|_, _, _| ()),
             Change::Index(|_, _, _| ()),
             Change::Report(|_, _, _| ()),
+            Change::DispatcherStart(|_, _, _| ()),
+            Change::DispatcherAdd(|_, _, _| ()),
+            Change::DispatcherTurn(|_, _, _| ()),
         ];
         let mut all = right.map(|change| Noticed::new(("right", change), |change| change));
         for number in 1..=500 {

@@ -30,14 +30,20 @@ fn succeeded(arguments: &[&str]) -> (Vec<Vec<String>>, String) {
 fn few_rounds() {
     let (lines, last) = succeeded(&["--seed=7", "20"]);
     assert_eq!(last, "20 rounds, seed 7: 0 differ");
-    assert_eq!(lines[0].join(" "), "answer 0 1 2 3 4 5 6 7 8 9 10");
-    let names: Vec<&str> = lines[1..11].iter().map(|line| line[0].as_str()).collect();
+    assert_eq!(lines[0].join(" "), "answer 0 1 2 3 4 5 6 7 8 9 10 11 12");
+    let names: Vec<&str> = lines[1..14].iter().map(|line| line[0].as_str()).collect();
     let wanted =
-        "expand is_expansion start segment padding execute same index_build index_add report";
+        "expand is_expansion start segment padding execute same index_build index_add report \
+         dispatcher_start dispatcher_add dispatcher_turn";
     assert_eq!(names.join(" "), wanted);
     // Refusal 2 comes from the calls at the limits.
-    let too_many: Vec<&str> = lines[1..11].iter().map(|line| line[3].as_str()).collect();
-    assert_eq!(too_many.join(" "), "1 - - 1 1 1 - - - -");
+    let too_many: Vec<&str> = lines[1..14].iter().map(|line| line[3].as_str()).collect();
+    assert_eq!(too_many.join(" "), "1 - - 1 1 1 - - - - - - -");
+    let reasons = &lines[14..lines.len() - 1];
+    assert!(reasons
+        .iter()
+        .all(|line| ["add:", "turn:"].contains(&line[0].as_str())));
+    assert_eq!(reasons.len(), 8);
 }
 
 #[test]

@@ -1,8 +1,8 @@
 //! A comparison says where a call is wrong: of every part that is lent, in the
 //! words and in the guards.
 
-use differential::{check, Comparing, Executing, Expanding, Indexing, Judging};
-use differential::{Call, Expansion, Lend, Lent, Reporting, Rng, Rom, Running, Starting};
+use differential::{check, Comparing, Dispatching, Executing, Expanding, Indexing, Judging};
+use differential::{Call, Expansion, Lend, Lent, Reporting, Rng, Rom, Running, Starting, Step};
 use differential::{ADDI, ECALL, GUARDS, SLL};
 use magnetar_cpu::Cursor;
 
@@ -153,5 +153,25 @@ fn of_a_report() {
         let wanted = format!("line, place {bytes} of {bytes}: ");
         let complaint = checked.err().expect("a complaint");
         assert!(complaint.starts_with(&wanted), "{complaint}");
+    }
+}
+
+/// With callers who want some, and at a position that there is not.
+#[test]
+fn of_a_dispatcher() {
+    let parts: [Part<Dispatching>; 3] = [
+        ("dispatcher", |lent| &mut lent.dispatcher),
+        ("caller", |lent| &mut lent.caller),
+        ("slice", |lent| &mut lent.slice),
+    ];
+    let add = Step::Add {
+        caller: 3,
+        cycles: 5,
+    };
+    for step in [Step::Start { budget: 7 }, add, Step::Turn] {
+        for word in [9, 16] {
+            let dispatching = Dispatching::new(step, &[word; 18], &mut Rng::new(2));
+            check_parts(&dispatching, &parts);
+        }
     }
 }

@@ -3,6 +3,7 @@
 #![forbid(unsafe_code)]
 
 mod complaints;
+mod dispatchers;
 mod edges;
 mod executions;
 mod limits;
