@@ -16,7 +16,7 @@
 #include <string.h>
 
 /* The checks when this was written; fewer mean that cases were lost. Those of 2^32 cycles are not always run. */
-#define SMALL_CHECKS 24176
+#define SMALL_CHECKS 27743
 #define LIMIT_CHECKS 66
 
 int main(int argc, char **argv)
@@ -34,6 +34,7 @@ int main(int argc, char **argv)
         same_cases(placement);
         index_cases(placement);
         report_cases(placement);
+        dispatcher_cases(placement);
     }
     name_cases();
     if (!is_small)

@@ -1,6 +1,6 @@
 /*
- * The header's names: flags, the words that the rule leaves 0, the words of a cursor, the places of an index, and the
- * bytes of a report.
+ * The header's names: flags, the words that the rule leaves 0, the words of a cursor and of a dispatcher, the places of an
+ * index, and the bytes of a report.
  */
 #include "cases.h"
 #include "rule.h"
@@ -56,4 +56,8 @@ void name_cases(void)
     check("an index's end", MAGNETAR_REGS + MAGNETAR_RAM_WORDS, MAGNETAR_INDEX_PLACES);
     begin(AMID_GUARDS, "magnetar_report", "the header's bytes");
     check("the longest line", longest_report(), MAGNETAR_REPORT_BYTES);
+    begin(AMID_GUARDS, "magnetar_dispatcher_start", "the header's words");
+    check("the callers' end", MAGNETAR_DISPATCHER_WANTED + MAGNETAR_CALLERS, MAGNETAR_DISPATCHER_POSITION);
+    check("the position's end", MAGNETAR_DISPATCHER_POSITION + 1, MAGNETAR_DISPATCHER_BUDGET);
+    check("the budget's end", MAGNETAR_DISPATCHER_BUDGET + 1, MAGNETAR_DISPATCHER_WORDS);
 }

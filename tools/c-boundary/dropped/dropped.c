@@ -1,7 +1,7 @@
 /*
  * Calls whose answers are not used, one call a line, of every function of the
  * header. It is compiled as C and as C++ and never run: under -Werror each line
- * but that of magnetar_start must be an error.
+ * but those of magnetar_start and magnetar_dispatcher_start must be an error.
  */
 #include "magnetar_cpu.h"
 
@@ -17,5 +17,8 @@ void drop(const uint32_t *program, uint64_t *words, uint64_t *cursor, uint8_t *l
     magnetar_index_build(words, 0, words, 0);
     magnetar_index_add(words, 0, 0, words, 0);
     magnetar_report(words, 0, words, 0, line, 0, words);
+    magnetar_dispatcher_start(0, words);
+    magnetar_dispatcher_add(words, 0, 0);
+    magnetar_dispatcher_turn(words, words, words);
     magnetar_cursor_words();
 }

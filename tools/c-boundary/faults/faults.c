@@ -40,6 +40,9 @@ uint64_t __real_magnetar_cursor_words(void);
 uint64_t __real_magnetar_index_build(const uint64_t *, size_t, uint64_t *, size_t);
 uint64_t __real_magnetar_index_add(const uint64_t *, size_t, uint64_t, uint64_t *, size_t);
 uint64_t __real_magnetar_report(const uint64_t *, size_t, const uint64_t *, size_t, uint8_t *, size_t, uint64_t *);
+void __real_magnetar_dispatcher_start(uint64_t, uint64_t *);
+uint64_t __real_magnetar_dispatcher_add(uint64_t *, uint64_t, uint64_t);
+uint64_t __real_magnetar_dispatcher_turn(uint64_t *, uint64_t *, uint64_t *);
 
 uint64_t __wrap_magnetar_expand(const uint32_t *program, size_t program_len, uint64_t *rows, size_t rows_len,
                                 uint64_t *starts, size_t starts_len, uint64_t *count)
@@ -225,4 +228,52 @@ uint64_t __wrap_magnetar_report(const uint64_t *live, size_t live_len, const uin
     answer = other("report refuses a count of 2^32", answer, 10, answer == 0 && live[0] == MAGNETAR_MAX_COUNT);
     answer = other("report refuses the most runs", answer, 9, answer == 0 && live_len == MAGNETAR_MAX_RUNS);
     return other("report takes more than the most runs", answer, 0, answer == 9 && live_len > MAGNETAR_MAX_RUNS);
+}
+
+void __wrap_magnetar_dispatcher_start(uint64_t budget, uint64_t *dispatcher)
+{
+    uint64_t position = dispatcher[MAGNETAR_DISPATCHER_POSITION];
+    __real_magnetar_dispatcher_start(budget, dispatcher);
+    if (is_fault("dispatcher_start leaves the position"))
+        dispatcher[MAGNETAR_DISPATCHER_POSITION] = position;
+    change("dispatcher_start writes past the dispatcher", dispatcher + MAGNETAR_DISPATCHER_WORDS, 1);
+}
+
+uint64_t __wrap_magnetar_dispatcher_add(uint64_t *dispatcher, uint64_t caller, uint64_t cycles)
+{
+    uint64_t wanted = caller < MAGNETAR_CALLERS ? dispatcher[caller] : 0;
+    int is_over = wanted > MAGNETAR_MAX_WANTED || cycles > MAGNETAR_MAX_WANTED - wanted;
+    if (is_fault("dispatcher_add reads what any caller wants"))
+        seen = dispatcher[caller];
+    uint64_t answer = __real_magnetar_dispatcher_add(dispatcher, caller, cycles);
+    change("dispatcher_add writes before the dispatcher", dispatcher - 1, answer == 0);
+    change("dispatcher_add writes what is wanted on refusal", dispatcher + caller % MAGNETAR_CALLERS, answer == 12);
+    answer = other("dispatcher_add takes caller 16", answer, 0, answer == 11 && caller == MAGNETAR_CALLERS);
+    answer = other("dispatcher_add takes any position", answer, 0, answer == 11 && caller < MAGNETAR_CALLERS && !is_over);
+    answer = other("dispatcher_add has 12 before 11", answer, 12, answer == 11 && is_over);
+    answer = other("dispatcher_add refuses a sum of 2^32", answer, 12, answer == 0 && wanted + cycles == MAGNETAR_MAX_WANTED);
+    answer = other("dispatcher_add refuses no 0 cycles", answer, 0, answer == 12 && cycles == 0);
+    return other("dispatcher_add's sum wraps", answer, 0, answer == 12 && wanted + cycles <= MAGNETAR_MAX_WANTED);
+}
+
+uint64_t __wrap_magnetar_dispatcher_turn(uint64_t *dispatcher, uint64_t *caller, uint64_t *slice)
+{
+    uint64_t position = dispatcher[MAGNETAR_DISPATCHER_POSITION], budget = dispatcher[MAGNETAR_DISPATCHER_BUDGET];
+    uint64_t old = *slice;
+    uint64_t answer = __real_magnetar_dispatcher_turn(dispatcher, caller, slice);
+    int has_grant = answer == 0 && *slice > 0;
+    if (is_fault("dispatcher_turn leaves slice where it grants nothing") && answer == 0 && !has_grant)
+        *slice = old;
+    if (is_fault("dispatcher_turn stays at the caller") && has_grant)
+        dispatcher[MAGNETAR_DISPATCHER_POSITION] = *caller;
+    if (is_fault("dispatcher_turn does not lower the budget") && has_grant)
+        dispatcher[MAGNETAR_DISPATCHER_BUDGET] = budget;
+    if (is_fault("dispatcher_turn moves where it grants nothing") && answer == 0 && !has_grant)
+        dispatcher[MAGNETAR_DISPATCHER_POSITION] = (position + 1) % MAGNETAR_CALLERS;
+    change("dispatcher_turn writes caller on refusal", caller, answer != 0);
+    change("dispatcher_turn writes the dispatcher on refusal", dispatcher, answer != 0);
+    change("dispatcher_turn writes past the dispatcher", dispatcher + MAGNETAR_DISPATCHER_WORDS, answer == 0);
+    answer = other("dispatcher_turn takes position 16", answer, 0, answer == 11 && position == MAGNETAR_CALLERS);
+    answer = other("dispatcher_turn has no 11 without a budget", answer, 0, answer == 11 && budget == 0);
+    return other("dispatcher_turn has a 12", answer, 12, has_grant && dispatcher[*caller] > MAGNETAR_MAX_WANTED);
 }
