@@ -4,6 +4,7 @@
 
 mod figures;
 mod index;
+mod turns;
 
 use report::Console;
 
@@ -11,4 +12,5 @@ fn main(rt: HostRuntime) {
     let to = Console::of(&rt);
     index::run(to);
     figures::run(to);
+    turns::run(to);
 }
