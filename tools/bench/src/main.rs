@@ -8,6 +8,7 @@ mod mix;
 mod report;
 mod short;
 mod target;
+mod turns;
 mod untimed;
 
 use differential::{ordinary_word, program, register_shift, Rng};
@@ -17,13 +18,14 @@ use machine::{Machine, LOOPS};
 use magnetar_cpu::MAX_PROGRAM_WORDS;
 use mix::Mix;
 use report::{
-    print_cold, print_expansion, print_indexes, print_machines, print_reports, print_short,
-    print_test,
+    print_cold, print_dispatchers, print_expansion, print_indexes, print_machines, print_reports,
+    print_short, print_test,
 };
 use short::Short;
 use std::env;
 use std::process::ExitCode;
 use target::{judge, Missed};
+use turns::Dispatched;
 use untimed::Untimed;
 
 const USAGE: &str = "\
@@ -153,11 +155,12 @@ fn run(rounds: usize) -> Result<Vec<Missed>, String> {
     print_short(&calls.shorts);
     print_indexes(&calls.indexes, &mut missed);
     print_reports(&calls.reports, &mut missed);
+    print_dispatchers(&calls.dispatchers);
     Ok(missed)
 }
 
-/// All segments, indexes and reports that are timed. They share their rounds, so that
-/// times of a busy computer fall on every table.
+/// All segments, indexes, reports and dispatchers that are timed. They share their
+/// rounds, so that times of a busy computer fall on every table.
 struct Calls {
     machines: Vec<Machine>,
     cold: Vec<Machine>,
@@ -165,6 +168,7 @@ struct Calls {
     shorts: Vec<Short>,
     indexes: Vec<Indexed>,
     reports: Vec<Reported>,
+    dispatchers: Vec<Dispatched>,
 }
 
 impl Calls {
@@ -176,6 +180,7 @@ impl Calls {
             shorts: Short::all()?,
             indexes: Indexed::all()?,
             reports: Reported::all()?,
+            dispatchers: Dispatched::all()?,
         })
     }
 
@@ -187,6 +192,7 @@ impl Calls {
         self.shorts.iter_mut().for_each(Short::round);
         self.indexes.iter_mut().for_each(Indexed::round);
         self.reports.iter_mut().for_each(Reported::round);
+        self.dispatchers.iter_mut().for_each(Dispatched::round);
     }
 }
 

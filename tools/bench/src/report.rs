@@ -6,6 +6,7 @@ use crate::machine::Machine;
 use crate::mix::Mix;
 use crate::short::{nanoseconds_per_row, Short};
 use crate::target::{state, Missed, INDEX, PACKED, RATIO, REPORT, ROWS, RUN};
+use crate::turns::Dispatched;
 
 pub fn print_expansion(mixes: &[Mix], missed: &mut Vec<Missed>) {
     println!(
@@ -120,6 +121,17 @@ pub fn print_reports(reports: &[Reported], missed: &mut Vec<Missed>) {
         let state = state(&format!("report, {runs} runs"), ratio, &REPORT, missed);
         let times = format!("{runs:>22}{rust:>9.0}{library:>9.0}{ratio:>7.2} {state:<6}");
         println!("{times}{read:>10.0}{:>8.2}", read / library);
+    }
+}
+
+pub fn print_dispatchers(dispatchers: &[Dispatched]) {
+    println!("\nA call on a dispatcher, ns; no target");
+    println!("(the library copies the dispatcher in every call, the Rust changes it in place)");
+    println!("                          Rust  library  ratio");
+    for dispatched in dispatchers {
+        let [rust, library] = dispatched.nanoseconds();
+        let (name, ratio) = (dispatched.name, rust / library);
+        println!("{name:<22}{rust:>8.1}{library:>9.1}{ratio:>7.2}");
     }
 }
 
