@@ -4,13 +4,17 @@ use mathlib.Core.Path.{subst}
 use lib.ListN.{take-append-drop, drop_of_length-le}
 use lib.Seq.{get_or-append-add, drop-cons}
 use Rattle.std.proofs.lemmas.List.{length-map}
+use Rattle.interp.specs.Calls.{Call as CursorCall}
 use Rattle.dispatch.specs.declared.caller.Caller.{Caller}
 use Rattle.dispatch.specs.declared.Dispatcher.{Dispatcher}
 use Rattle.dispatch.specs.Dispatch.{wanting, fresh, add_number, after_add, turn_number, granted, moved, after_turn}
+use Rattle.dispatch.specs.Calls.{Call, add, turn, after, last, grants_of, grants, slices_to}
+use Rattle.dispatch.specs.Driven.{Driven}
 use Rattle.dispatch.proofs.Laws.{claims}
-use Rattle.dispatch.specs.Calls.{Call, add, turn, after, last, grants_of, grants}
+use Rattle.dispatch.proofs.Drives.{driven_claims}
 use Rattle.magnetar_cpu.specs.DispatcherImage.{dispatcher_words, dispatcher_of, dispatcher_image, image_after_add, image_after_turn}
-use Rattle.magnetar_cpu.specs.DispatcherClaims.{image_after_call, last_dispatcher, image_grants, DispatcherLaws}
+use Rattle.magnetar_cpu.specs.DispatcherClaims.{image_after_call, last_dispatcher, image_grants, DrivenImage, DispatcherLaws}
+use Rattle.magnetar_cpu.proofs.Round.{image_laws}
 
 -- ---- words and callers
 
@@ -114,6 +118,17 @@ started budget ks =
     let image = dispatcher_image (fresh budget) in
     subst (λ d. Follows image d ks) (read_back (fresh budget) refl) (follows image ks (sized (fresh budget) refl))
 
+-- ---- a cursor driven by the grants of C calls
+
+driven : (c budget : ℕ) (ks : List Call) (rows input : List ℕ) (calls : List CursorCall)
+    → Driven (slices_to c (image_grants (dispatcher_image (fresh budget)) ks)) calls → DrivenImage rows input calls
+driven c budget ks rows input calls d =
+    let driven_by = subst (λ gs. Driven (slices_to c gs) calls) (started budget ks).grant_lists d in
+    record {
+      same_log = image_laws.started_log rows input calls;
+      consistent = driven_claims.consistent c budget ks rows input calls driven_by;
+    }
+
 -- ---- the whole
 
 pub dispatcher_laws : DispatcherLaws
@@ -127,4 +142,5 @@ dispatcher_laws =
       grant_lists = λ image ks h. (follows image ks h).grant_lists;
       started_dispatcher = λ budget ks. (started budget ks).dispatchers;
       started_grants = λ budget ks. (started budget ks).grant_lists;
+      driven = driven;
     }

@@ -1,10 +1,15 @@
 -- What is claimed of dispatchers' images and of lists of adds and turns through the C interface. The function `dispatcher_laws` of
 -- src/dispatcher.rt has the whole for its contract. Assumes nothing: these are definitions.
 use Rattle.std.specs.Prelude.{◌≡◌, ℕ, None, List, [], ◌∷◌, ◌++◌, length}
+use Rattle.interp.specs.Machine.{start_of}
+use Rattle.interp.specs.Calls.{Call as CursorCall, log}
 use Rattle.dispatch.specs.declared.Dispatcher.{Dispatcher}
 use Rattle.dispatch.specs.declared.Grant.{Grant}
 use Rattle.dispatch.specs.Dispatch.{fresh, granted}
-use Rattle.dispatch.specs.Calls.{Call, add, turn, last, grants_of, grants}
+use Rattle.dispatch.specs.Calls.{Call, add, turn, last, grants_of, grants, slices_to}
+use Rattle.dispatch.specs.Driven.{Driven, Consistent}
+use Rattle.magnetar_cpu.specs.Image.{image_of}
+use Rattle.magnetar_cpu.specs.Claims.{image_log}
 use Rattle.magnetar_cpu.specs.DispatcherImage.{dispatcher_words, dispatcher_of, dispatcher_image, image_after_add, image_after_turn}
 
 -- ---- a list of C calls, each of which gets the image that the one before left
@@ -26,6 +31,11 @@ image_grants image (k ∷ ks) = grants_of (dispatcher_of image) k ++ image_grant
 
 -- ---- what is claimed
 
+-- C segment calls on a cursor's image, from that of `magnetar_start` on, have the log of the same calls on cursors, and demand 3
+pub record DrivenImage (rows input : List ℕ) (calls : List CursorCall) : Type 0 where
+  pub same_log : image_log rows (image_of (start_of input)) calls ≡ log rows (start_of input) calls
+  pub consistent : Consistent rows input calls
+
 -- the contract of `dispatcher_laws`
 pub record DispatcherLaws : Type 0 where
   -- a dispatcher of sixteen callers has an image of as many words as are lent for it, and is read back from it
@@ -41,3 +51,6 @@ pub record DispatcherLaws : Type 0 where
   -- from the image of `magnetar_dispatcher_start` on these are the dispatcher and the grants of which `dispatch` claims its laws
   pub started_dispatcher : (budget : ℕ) (ks : List Call) → dispatcher_of (last_dispatcher (dispatcher_image (fresh budget)) ks) ≡ last (fresh budget) ks
   pub started_grants : (budget : ℕ) (ks : List Call) → image_grants (dispatcher_image (fresh budget)) ks ≡ grants (fresh budget) ks
+  -- segment calls whose lengths are the slices that these C calls grant caller c, whatever their buffers, rows and input
+  pub driven : (c budget : ℕ) (ks : List Call) (rows input : List ℕ) (calls : List CursorCall)
+      → Driven (slices_to c (image_grants (dispatcher_image (fresh budget)) ks)) calls → DrivenImage rows input calls
