@@ -3,10 +3,10 @@ use Rattle.std.proofs.Common.{◌≡◌, ℕ, zero, suc, ◌+◌, ◌-◌, ◌*�
 use Rattle.std.proofs.lemmas.Bool.{lt-leb}
 use lib.ListN.{drop_of_length-le, length-drop}
 use lib.Seq.{drop-cons, take_all, drop-drop}
-use Rattle.std.specs.Option.{option_and_then}
+use Rattle.std.specs.Option.{option_map, option_and_then}
 use Rattle.listing.specs.Lines.{hex_value}
 use Rattle.calls.specs.declared.Number.{Number}
-use Rattle.calls.specs.Parse.{number_up_to, digits_from, plain, spaced_number, numbers_from, parsed}
+use Rattle.calls.specs.Parse.{number_up_to, digits_from, plain, spaced_number, numbers_from, packed, parsed}
 
 -- ---- the digits of a number
 
@@ -112,7 +112,7 @@ unfolding parsed
 parsed_empty [] h = refl
 parsed_empty (letter ∷ text) h = absurd (omega arith)
 
-pub parsed_from : (bytes : List ℕ) → 1 ≤ length bytes → record { letter = get_or bytes 0 0; numbers = numbers_from 17 bytes [] 1 } ≡ parsed bytes
+pub parsed_from : (bytes : List ℕ) → 1 ≤ length bytes → record { letter = get_or bytes 0 0; numbers = option_map packed (numbers_from 17 bytes [] 1) } ≡ parsed bytes
 unfolding parsed
 parsed_from [] h = absurd (omega arith)
 parsed_from (letter ∷ text) h = refl

@@ -1,9 +1,10 @@
 -- The line that some bytes are. Assumes nothing: these are definitions.
-use Rattle.std.specs.Prelude.{ℕ, zero, suc, ◌+◌, ◌*◌, ◌^◌, Bool, false, not, cond, ◌&&◌, List, [], ◌∷◌, ◌++◌, length, drop, eqb, ltb, leb, Option, None, Some}
+use Rattle.std.specs.Prelude.{ℕ, zero, suc, ◌+◌, ◌-◌, ◌*◌, ◌^◌, Bool, not, cond, ◌&&◌, List, [], ◌∷◌, ◌++◌, length, take, drop, get_or, replicate, eqb, ltb, leb, Option, None, Some}
 use Rattle.std.specs.Option.{option_map, option_and_then, option_map_or}
 use Rattle.arrayvec.specs.ArrayVec.{ArrayVec}
 use Rattle.listing.specs.Lines.{hex_value}
 use Rattle.calls.specs.declared.Line.{Line}
+use Rattle.calls.specs.declared.Numbers.{Numbers}
 use Rattle.calls.specs.declared.Number.{Number}
 
 -- ---- a number
@@ -41,31 +42,42 @@ numbers_from (suc more) bytes values at =
     (option_and_then (λ (n : Number). numbers_from more bytes (values ++ n.value ∷ []) n.after) (spaced_number at (drop at bytes)))
     (Some (record { items = values }))
 
+-- the numbers in the first places
+abbrev pub items_of : Numbers → List ℕ
+items_of n = take n.count n.places
+
+-- numbers in the first of 17 places, and 0 in the others
+abbrev pub packed : ArrayVec ℕ → Numbers
+packed n = record { count = length n.items; places = n.items ++ replicate (17 - length n.items) 0 }
+
 -- the line that bytes are: a letter, then up to 17 numbers; none, where they have another form
 unfoldable pub parsed : List ℕ → Line
 parsed [] = record { letter = 0; numbers = None }
-parsed (letter ∷ rest) = record { letter = letter; numbers = numbers_from 17 (letter ∷ rest) [] 1 }
+parsed (letter ∷ rest) = record { letter = letter; numbers = option_map packed (numbers_from 17 (letter ∷ rest) [] 1) }
 
 -- ---- what a line says
 
 -- the numbers of a line that has its form
 abbrev pub values_of : Line → Option (List ℕ)
-values_of line = option_map (λ (n : ArrayVec ℕ). n.items) line.numbers
+values_of line = option_map items_of line.numbers
+
+-- how many numbers there are; a line of another form counts as one of 18
+abbrev pub count_of : Line → ℕ
+count_of line = option_map_or length (values_of line) 18
+
+-- the first number; 0, where there is none
+abbrev pub first_number : Line → ℕ
+first_number line = option_map_or (λ values. get_or values 0 0) (values_of line) 0
 
 -- the line has this letter and so many numbers
 abbrev pub is_line : Line → ℕ → ℕ → Bool
-is_line line letter count = eqb line.letter letter && option_map_or (λ values. eqb (length values) count) (values_of line) false
-
--- the first of some numbers
-abbrev pub first_of : List ℕ → Option ℕ
-first_of [] = None
-first_of (first ∷ rest) = Some first
+is_line line letter count = eqb line.letter letter && eqb (count_of line) count
 
 -- the place of register cell i, or of RAM word i, which stands behind the 64 registers
 abbrev pub cell_place : Bool → Bool → ℕ → Option ℕ
 cell_place is_register is_word i = cond (is_register && ltb i 64) (Some i) (cond (is_word && ltb i 256) (Some (i + 64)) None)
 
--- the place of the cell that a line of so many numbers names first; none, where it has no number
+-- the place of the cell that a line of so many numbers names first
 abbrev pub place_of : Line → ℕ → ℕ → ℕ → Option ℕ
 place_of line register word count =
-    option_and_then (cell_place (is_line line register count) (is_line line word count)) (option_and_then first_of (values_of line))
+    cell_place (is_line line register count) (is_line line word count) (first_number line)

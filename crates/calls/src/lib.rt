@@ -4,7 +4,7 @@
 
 ghost use Rattle.std.specs.Prelude.{◌≡◌, ◌<◌, ◌≤◌, IfSome, [], length, drop};
 ghost use Rattle.std.specs.Option.{option_map};
-ghost use Rattle.calls.specs.Parse.{digits_from, spaced_number, numbers_from, parsed, values_of, is_line, place_of};
+ghost use Rattle.calls.specs.Parse.{digits_from, spaced_number, numbers_from, items_of, packed, parsed, values_of, is_line, place_of};
 
 use arrayvec::ArrayVec;
 use listing::hex_value;
@@ -15,10 +15,17 @@ pub const NUMBERS: usize = 17;
 // A letter and the numbers behind it; none, where they have another form. An empty line has the letter
 // 0, and no `None` stands for it: no list has a line of that letter, so it is told like any other line
 // that does not belong where it stands.
-#[derive(Drop)]
+#[derive(Clone, Copy)]
 pub struct Line {
     pub letter: u8,
-    pub numbers: Option<ArrayVec<u64, NUMBERS>>,
+    pub numbers: Option<Numbers>,
+}
+
+// The numbers of a line, in the first places of an array, so that a line is copied like its letter.
+#[derive(Clone, Copy)]
+pub struct Numbers {
+    count: usize,
+    places: [u64; NUMBERS],
 }
 
 // A number of a line, and the place behind it.
@@ -26,6 +33,27 @@ pub struct Line {
 struct Number {
     value: u64,
     after: usize,
+}
+
+impl Numbers {
+    pub fn of(values: &ArrayVec<u64, NUMBERS>) -> Numbers
+        ensures packed { result ≡ packed values.now }
+        ensures same { items_of result ≡ values.now.items }
+    {
+        let values = values.as_slice();
+        let mut places = [0; NUMBERS];
+        places[..values.len()].copy_from_slice(values);
+        Numbers {
+            count: values.len(),
+            places,
+        }
+    }
+
+    pub fn as_slice(&self) -> &[u64]
+        ensures { result.now ≡ items_of self.now }
+    {
+        &self.places[..self.count.min(NUMBERS)]
+    }
 }
 
 impl Line {
@@ -102,6 +130,7 @@ fn numbers_of(line: &[u8]) -> Option<ArrayVec<u64, NUMBERS>>
 }
 
 // The line that some bytes are, without the line feed.
+#[tactic(auto, using(crate::proofs::Turns::parsed_from))]
 pub fn line_of(bytes: &[u8]) -> Line
     ensures { result ≡ parsed bytes.now }
 {
@@ -113,31 +142,32 @@ pub fn line_of(bytes: &[u8]) -> Line
     };
     Line {
         letter: *letter,
-        numbers: numbers_of(bytes),
+        numbers: numbers_of(bytes).map(|numbers| Numbers::of(&numbers)),
     }
 }
 
-// Whether a line has this letter and so many numbers.
+// Whether a line has this letter and so many numbers. One of another form counts as one of NUMBERS + 1.
 pub fn is_line(line: &Line, letter: u8, count: usize) -> bool
     ensures { result ≡ is_line line.now letter count }
 {
-    line.letter == letter && line.values().is_some_and(|values| values.len() == count)
+    line.letter == letter && line.values().map_or(NUMBERS + 1, |values| values.len()) == count
 }
 
 // The place of the cell that a line of `count` numbers names first, a register after the letter
-// `register` and a RAM word after `word`.
+// `register` and a RAM word after `word`. The number of a line that has none is 0.
 pub fn place_of(line: &Line, register: u8, word: u8, count: usize) -> Option<usize>
     ensures place { result ≡ place_of line.now register word count }
     ensures bound { IfSome result (λ p. p < 320) }
 {
-    let Some([i, ..]) = line.values() else {
-        return None;
+    let i = match line.values() {
+        Some([i, ..]) => *i,
+        _ => 0,
     };
-    if is_line(line, register, count) && *i < 64 {
-        return Some(*i as usize);
+    if is_line(line, register, count) && i < 64 {
+        return Some(i as usize);
     }
-    if is_line(line, word, count) && *i < 256 {
-        return Some(*i as usize + 64);
+    if is_line(line, word, count) && i < 256 {
+        return Some(i as usize + 64);
     }
     None
 }
