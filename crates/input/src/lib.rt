@@ -2,9 +2,9 @@
 // name.
 #![tactic(auto)]
 
-ghost use Rattle.std.specs.Prelude.{◌≡◌, ◌<◌, ◌≤◌, IfOk, length, take};
+ghost use Rattle.std.specs.Prelude.{◌≡◌, ◌<◌, ◌≤◌, IfOk, IfErr, length, take};
 ghost use Rattle.std.specs.Io.KnownBytes.{Consumes, IsAtEnd};
-ghost use Rattle.input.specs.Input.{IsPrefixLen, count_of, outcome_of};
+ghost use Rattle.input.specs.Input.{IsPrefixLen, count_of, outcome_of, told_at_most};
 
 use std::env::{Env, FillError};
 use std::io::{ErrorKind, Print, Read, Stderr, Write};
@@ -136,13 +136,14 @@ fn open<'a, R: Files>(rt: &R, path: &'a [u8]) -> io::Result<Opened<'a, R::File>>
     Ok(Opened { file, name })
 }
 
-// Opens the file that argument `i` names. Its name stands in `path`.
+// Opens the file that argument `i` names. Its name stands in `path`; so does what failed, but for an argument that did not come.
 pub fn open_argument<'a, R: Env + Files>(
     rt: &R,
     i: usize,
     path: &'a mut [u8],
 ) -> Result<Opened<'a, R::File>, Failure<'a>>
-    ensures { IfOk result (λ o. length o.name.now ≤ length path.old) }
+    ensures name { IfOk result (λ o. length o.name.now ≤ length path.old) }
+    ensures what { IfErr result (λ f. length f.what.now ≤ told_at_most (length path.old)) }
 {
     let n = rt.arg(i, path).map_err(|e| Failure {
         what: b"argument",
