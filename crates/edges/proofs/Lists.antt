@@ -84,22 +84,34 @@ module _ (n k i : ℕ) (cells : List ℕ) (so_far : cells ≡ take i (up_from n 
       so_far
       ∙ rw (take_all i (up_from n k) (omega (arith, length-up_from n k)), drop_all {X = ℕ} i (replicate n 0) (omega (arith, length-replicate {A = ℕ} n 0))) (append-nil (up_from n k))
 
--- ---- the first place that differs, a turn of the loop
+-- ---- the first place that differs
 
+module _ (want found : List ℕ) (rest i : ℕ) where
+  module _ (here : i < length found) where
+    pub same_here : get_or found i 0 ≡ get_or want i rest → differ_from i want rest (drop i found) ≡ differ_from (i + 1) want rest (drop (i + 1) found)
+    unfolding differ_from
+    same_here e = rw (drop-cons found i 0 here, eq-eqb (get_or found i 0) (get_or want i rest) e, add-one)
+
+    pub other_here : (get_or found i 0 ≡ get_or want i rest → ⊥) → differ_from i want rest (drop i found) ≡ i
+    unfolding differ_from
+    other_here n = rw (drop-cons found i 0 here, ne_eqb (get_or found i 0) (get_or want i rest) n)
+
+  pub none_left : length found ≤ i → differ_from i want rest (drop i found) ≡ i
+  unfolding differ_from
+  none_left h = rw (drop_of_length-le found {i = i} h)
+
+-- a turn of the loop
 module _ (want found : List ℕ) (rest i : ℕ) (before : differ_from i want rest (drop i found) ≡ differ_from 0 want rest found) where
   module _ (here : i < length found) where
-    pub same_here : get_or found i 0 ≡ get_or want i rest → differ_from (i + 1) want rest (drop (i + 1) found) ≡ differ_from 0 want rest found
-    unfolding differ_from
-    same_here e = sym (rw (drop-cons found i 0 here, eq-eqb (get_or found i 0) (get_or want i rest) e, add-one)) ∙ before
+    pub same_on : get_or found i 0 ≡ get_or want i rest → differ_from (i + 1) want rest (drop (i + 1) found) ≡ differ_from 0 want rest found
+    same_on e = sym (same_here want found rest i here e) ∙ before
 
-    pub other_here : (get_or found i 0 ≡ get_or want i rest → ⊥) → Some i ≡ differ_place want rest found
-    unfolding differ_from
-    other_here n =
-        let at : i ≡ differ_from 0 want rest found = sym (rw (drop-cons found i 0 here, ne_eqb (get_or found i 0) (get_or want i rest) n)) ∙ before in
+    pub other_is : (get_or found i 0 ≡ get_or want i rest → ⊥) → Some i ≡ differ_place want rest found
+    other_is n =
+        let at : i ≡ differ_from 0 want rest found = sym (other_here want found rest i here n) ∙ before in
         rw (← at, lt-ltb i (length found) here)
 
-  pub none_left : length found ≤ i → None ≡ differ_place want rest found
-  unfolding differ_from
-  none_left h =
-      let at : i ≡ differ_from 0 want rest found = sym (rw (drop_of_length-le found {i = i} h)) ∙ before in
+  pub none_is : length found ≤ i → None ≡ differ_place want rest found
+  none_is h =
+      let at : i ≡ differ_from 0 want rest found = sym (none_left want found rest i h) ∙ before in
       rw (← at, le-ltb i (length found) h)

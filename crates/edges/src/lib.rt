@@ -73,7 +73,7 @@ pub fn say_wrong(to: Console, what: &str, want: u64, found: u64) -> bool {
 }
 
 // The first place of `found` that does not hold what `want` has there, or `rest` past it.
-#[tactic(auto, using(crate::proofs::Lists::same_here, crate::proofs::Lists::other_here, crate::proofs::Lists::none_left))]
+#[tactic(auto, using(crate::proofs::Lists::same_on, crate::proofs::Lists::other_is, crate::proofs::Lists::none_is))]
 fn differ_at(want: &[u64], rest: u64, found: &[u64]) -> Option<usize>
     ensures { result ≡ differ_place want.now rest found.now }
 {

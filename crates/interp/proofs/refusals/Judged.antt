@@ -126,7 +126,7 @@ fits_accepted rows c seg n room none pc fetch few fits =
 -- ---- the answers
 
 -- the number that a call returns is that of the tests
-judged : (request : Request) (rows : List ℕ) (c : Cursor) (buffer : List ℕ)
+pub judged : (request : Request) (rows : List ℕ) (c : Cursor) (buffer : List ℕ)
     → first_met (refusals rows c (wants_segment request) (length_of request) (length buffer)) ≡ refusal_of rows c (call_of request buffer)
 unfolding refusal_of is_segment amount lent
 judged (Segment n) rows c buffer = refl
