@@ -311,7 +311,8 @@ fn count_rows(program: &[u32]) -> usize
     program.iter().map(|raw| row_count(*raw) as usize).sum()
 }
 
-// Writes the rows of a word from `at` on, and answers the position after them. Row k is stage k, so the loop goes over k.
+// Writes the rows of a word from `at` on, and answers the position after them. Row k of a shift is stage k, so the loop goes
+// over k. A word of one row has a store of its own: with one loop over either count a word takes up to twice the time.
 #[tactic(auto, using(crate::proofs::Expansion::rows_few, crate::proofs::Steps::put_more))]
 fn put(rows: &mut [u64], at: MicroPc, raw: u32) -> MicroPc
     requires { at.0 + length (rows_of raw) ≤ length rows.old }
@@ -319,11 +320,14 @@ fn put(rows: &mut [u64], at: MicroPc, raw: u32) -> MicroPc
     ensures rows { rows.new ≡ take at.0 rows.old ++ rows_of raw ++ drop (at.0 + length (rows_of raw)) rows.old }
 {
     let i = at.0;
-    let count = row_count(raw);
-    for k in 0..count {
-        rows[i + k as usize] = raw as u64 + 0x1_0000_0000 * (k as u64);
+    if is_reg_shift(raw as u64) {
+        for k in 0..SHIFT_STAGES {
+            rows[i + k as usize] = raw as u64 + 0x1_0000_0000 * (k as u64);
+        }
+        return MicroPc(i + SHIFT_STAGES as usize);
     }
-    MicroPc(i + count as usize)
+    rows[i] = raw as u64;
+    MicroPc(i + 1)
 }
 
 // Writes the rows and the starts of a program to the first places of the two buffers.

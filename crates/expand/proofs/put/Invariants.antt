@@ -1,7 +1,7 @@
-use mathlib.Core.Path.{◌≡◌}
+use Rattle.std.proofs.Common.{◌≡◌, length}
 use lib.Seq.{paste}
 use Rattle.expand.specs.Expand.{rows_of}
 use Rattle.expand.proofs.put.Given as goal
 
 abbrev pub invariant-loop-k : goal.invariant-loop-k
-invariant-loop-k l = l.rows ≡ paste l.fn.rows l.i (rows_of l.raw) l.k
+invariant-loop-k l = (length (rows_of l.raw) ≡ 6) × (l.rows ≡ paste l.fn.rows l.i (rows_of l.raw) l.k)
