@@ -23,8 +23,11 @@ const TEXT: usize = lines::TEXT;
 // The replay of a file.
 #[derive(Drop)]
 struct Run {
-    // What is printed for the input.
-    text: ArrayVec<u8, TEXT>,
+    // The bytes of the input.
+    input: ArrayVec<u8, MAX_CASE_BYTES>,
+    // What is printed for the input, first in its place, and how many bytes that is.
+    text: [u8; TEXT],
+    made: usize,
     // Where the next line of it begins; none, where the case is given up.
     next: Option<usize>,
     cases: u64,
@@ -37,9 +40,9 @@ fn byte_of(digits: &[u8; 2]) -> Option<u8> {
     Some((hex_value(*high)? * 16 + hex_value(*low)?) as u8)
 }
 
-// The bytes that the digits of an input line give. Faults are texts: they are only said, and no caller
-// tells one from another.
-fn bytes_of(digits: &[u8]) -> Result<ArrayVec<u8, MAX_CASE_BYTES>, &'static str> {
+// Puts the bytes that the digits of an input line give into `bytes`. Faults are texts: they are only
+// said, and no caller tells one from another.
+fn put_bytes(digits: &[u8], bytes: &mut ArrayVec<u8, MAX_CASE_BYTES>) -> Result<(), &'static str> {
     if digits.len() > 2 * MAX_CASE_BYTES {
         return Err("more than 4200 bytes");
     }
@@ -47,11 +50,11 @@ fn bytes_of(digits: &[u8]) -> Result<ArrayVec<u8, MAX_CASE_BYTES>, &'static str>
     if !rest.is_empty() {
         return Err("an odd number of digits");
     }
-    let mut bytes = ArrayVec::new();
+    bytes.clear();
     for pair in pairs {
         bytes.push(byte_of(pair).ok_or("not lower-case hexadecimal digits")?);
     }
-    Ok(bytes)
+    Ok(())
 }
 
 // The first column in which a stored line differs from the made one; column 2 is the first of both.
@@ -73,7 +76,9 @@ impl Run {
     // Before the first case nothing is printed.
     fn new() -> Run {
         Run {
-            text: ArrayVec::new(),
+            input: ArrayVec::new(),
+            text: [0; TEXT],
+            made: 0,
             next: Some(0),
             cases: 0,
             compared: 0,
@@ -82,7 +87,7 @@ impl Run {
 
     // The next printed line, without its line feed; none, where the case is given up or has no further.
     fn next_made(&self) -> Option<&[u8]> {
-        let left = self.text.get(self.next?..)?;
+        let left = self.text.get(self.next?..self.made)?;
         if left.is_empty() {
             return None;
         }
@@ -97,14 +102,13 @@ impl Run {
         }
     }
 
-    // Takes the digits of an input, and makes what is printed for it.
+    // Takes the digits of an input, and makes what is printed for it. The place is cleared, so that no
+    // text of an earlier case is left.
     fn input_line(&mut self, digits: &[u8], list: &mut Report<'_>) -> Result<(), &'static str> {
         self.end_case(list, "the case before ends early");
-        let input = bytes_of(digits)?;
-        let mut text = [0; TEXT];
-        let made = trace_answer::answer(&input, &mut text);
-        self.text = ArrayVec::from(text);
-        self.text.truncate(made);
+        put_bytes(digits, &mut self.input)?;
+        self.text = [0; TEXT];
+        self.made = trace_answer::answer(&self.input, &mut self.text);
         self.next = Some(0);
         self.cases = one_more(self.cases);
         Ok(())
