@@ -86,10 +86,11 @@ fn say_no_rows(list: &mut Report<'_>, lines: &[[u8; 48]]) {
     list.say_line(first, "not expanded");
 }
 
-// Whether `wide` holds what `exact` holds, and past it what it held before.
+// Whether `wide` holds what `exact` holds, and past it what it held before. All words past it are
+// looked at, which is quicker than to stop at the first that differs.
 fn holds_only(wide: &[u64], exact: &[u64]) -> bool {
     let rest = wide.strip_prefix(exact);
-    rest.is_some_and(|rest| rest.iter().all(|word| *word == GUARD))
+    rest.is_some_and(|rest| rest.iter().fold(true, |same, word| same & (*word == GUARD)))
 }
 
 fn check_count(announced: usize, right: usize) -> Result<(), Fault> {
@@ -183,6 +184,27 @@ fn check_program(list: &mut Report<'_>, announced: usize, lines: &[[u8; 48]])
     }
 }
 
+// Takes the row lines of the program of the last line that was taken, checks it by them, and answers
+// whether to go on. Nothing stands before the buffer here, so that it is cleared once.
+fn take_rows(
+    list: &mut Report<'_>,
+    file: &mut File,
+    announced: usize,
+    rows: usize,
+) -> io::Result<bool>
+    requires { rows ≤ 1365 }
+{
+    let mut buffer = [0u8; MAX_BYTES];
+    let bytes = &mut buffer[..rows * 48];
+    if input::fill(file, bytes)? < bytes.len() {
+        list.wrong(CUT);
+        return Ok(false);
+    }
+    let (lines, _) = bytes.as_chunks::<48>();
+    check_program(list, announced, lines);
+    Ok(true)
+}
+
 // Takes the next program, and answers whether to go on.
 fn take_program(list: &mut Report<'_>, file: &mut File) -> io::Result<bool> {
     let Some(line) = list.read_line(file)? else {
@@ -197,15 +219,7 @@ fn take_program(list: &mut Report<'_>, file: &mut File) -> io::Result<bool> {
         list.wrong(format_args!("more than {MAX_ROWS} rows"));
         return Ok(false);
     }
-    let mut buffer = [0u8; MAX_BYTES];
-    let bytes = &mut buffer[..rows * 48];
-    if input::fill(file, bytes)? < bytes.len() {
-        list.wrong(CUT);
-        return Ok(false);
-    }
-    let (lines, _) = bytes.as_chunks::<48>();
-    check_program(list, sizes.words as usize, lines);
-    Ok(true)
+    take_rows(list, file, sizes.words as usize, rows)
 }
 
 // Checks the programs of a list. The bound is one that no list reaches.
