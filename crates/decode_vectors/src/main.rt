@@ -23,12 +23,15 @@ fn check_line(list: &mut Report<'_>, line: &[u8; 48]) {
     }
 }
 
-// Checks the lines of a list. The turns are more than any run uses up.
+// Checks the lines of a list. A terminal can go on after a line that is cut short. The turns are more
+// than any run uses up.
 fn check_list(list: &mut Report<'_>, mut file: File) -> io::Result<()> {
     for _ in 0..u64::MAX {
+        let before = list.counts.lines;
         match list.read_line(&mut file)? {
             Some(line) => check_line(list, &line),
-            None => break,
+            None if list.counts.lines == before => break,
+            None => {}
         }
     }
     list.say_compared("");
