@@ -64,10 +64,13 @@ pub fn number_of<T: Copy, E: Into<u64>>(outcome: Result<T, E>) -> u64
     }
 }
 
-// Says a number that is not the expected one, and answers whether it is.
-pub fn say_wrong(to: Console, what: &str, want: u64, found: u64) -> bool {
+// Says a number that is not the expected one, and answers whether it is. The words before a number or
+// place end in a space, here and below.
+pub fn say_wrong(to: Console, what: &[u8], want: u64, found: u64) -> bool {
     if want != found {
-        to.say(format_args!(", WRONG {what} {found}, expected {want}"));
+        to.say(", WRONG ");
+        to.say_bytes(what);
+        to.say(format_args!("{found}, expected {want}"));
     }
     want == found
 }
@@ -87,19 +90,23 @@ fn differ_at(want: &[u64], rest: u64, found: &[u64]) -> Option<usize>
 }
 
 // Says the first place where `found` is not `want` and then `rest`, and answers whether there is none.
-pub fn say_differs(to: Console, what: &str, want: &[u64], rest: u64, found: &[u64]) -> bool {
+pub fn say_differs(to: Console, what: &[u8], want: &[u64], rest: u64, found: &[u64]) -> bool {
     let missing = (found.len() < want.len()).then_some(found.len());
     let wrong = differ_at(want, rest, found).or(missing);
     if let Some(at) = wrong {
-        to.say(format_args!(", WRONG {what} {at}"));
+        to.say(", WRONG ");
+        to.say_bytes(what);
+        to.say(at);
     }
     wrong.is_none()
 }
 
 // Says whether `found` is `want` and then `rest`: that it is right, or the first place that is not.
-pub fn say_list(to: Console, what: &str, want: &[u64], rest: u64, found: &[u64]) {
+pub fn say_list(to: Console, what: &[u8], want: &[u64], rest: u64, found: &[u64]) {
     if say_differs(to, what, want, rest, found) {
-        to.say(format_args!(", {what} right"));
+        to.say(", ");
+        to.say_bytes(what);
+        to.say("right");
     }
 }
 
@@ -121,8 +128,8 @@ pub fn cells_of(cursor: Cursor) -> Cells
     cells
 }
 
-// The names of a cursor's numbers, in their order.
-pub const NUMBER_NAMES: [&str; 5] = ["micro_pc", "cycles", "halted", "output", "next_fetch"];
+// The names of a cursor's numbers, in their order, each with the space before its number.
+pub const NUMBER_NAMES: [&str; 5] = ["micro_pc ", "cycles ", "halted ", "output ", "next_fetch "];
 
 pub fn numbers_of(cursor: Cursor) -> [u64; 5]
     ensures { result ≡ numbers_of cursor }

@@ -19,20 +19,20 @@ fn nothing() -> Execution {
 
 fn say_number(to: Console, what: &str, want: u64, found: u64) {
     let wrong = if want == found { "" } else { "WRONG " };
-    to.say(format_args!(", {wrong}{what} {found}"));
+    to.say(format_args!(", {wrong}{what}{found}"));
 }
 
 fn say_execution(to: Console, want: Execution, found: Execution) {
-    say_number(to, "live", want.live_count, found.live_count);
-    say_number(to, "records", want.record_count, found.record_count);
+    say_number(to, "live ", want.live_count, found.live_count);
+    say_number(to, "records ", want.record_count, found.record_count);
     let want = want.cursor;
     let found = found.cursor;
     let numbers = numbers_of(want).into_iter().zip(numbers_of(found));
     for (what, (want, found)) in NUMBER_NAMES.iter().zip(numbers) {
         say_number(to, what, want, found);
     }
-    say_list(to, "registers", &want.regs, 0, &found.regs);
-    say_list(to, "RAM", &want.ram, 0, &found.ram);
+    say_list(to, b"registers ", &want.regs, 0, &found.regs);
+    say_list(to, b"RAM ", &want.ram, 0, &found.ram);
 }
 
 // What execute runs on, and under which name that is said.
@@ -68,9 +68,9 @@ impl<'a> Case<'a> {
             return;
         };
         let found = interp::execute(self.rows, self.input, max_cycles, lent);
-        say_number(to, "number", number_of(want), number_of(found));
+        say_number(to, "number ", number_of(want), number_of(found));
         say_execution(to, want.unwrap_or(nothing()), found.unwrap_or(nothing()));
-        say_list(to, "buffer", records.as_flattened(), GUARD, &places);
+        say_list(to, b"buffer ", records.as_flattened(), GUARD, &places);
         to.say("\n");
     }
 

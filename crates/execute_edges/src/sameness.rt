@@ -6,8 +6,8 @@ use std::ops::Range;
 
 fn say_same(to: Console, want: bool, found: bool) {
     let wrong = if want == found { "" } else { ", WRONG" };
-    let same = if found { "same" } else { "different" };
-    to.say(format_args!("{wrong}, {same}"));
+    let same = if found { ", same" } else { ", different" };
+    to.say(format_args!("{wrong}{same}"));
 }
 
 // Console and name are parameters here and in the tests below, since each comparison has its own name.
@@ -114,11 +114,11 @@ fn say_cell(to: Console, i: usize, a: Cursor, b: Cursor) {
     }
 }
 
-// Each of these cells alone.
+// Each of these cells alone. The name says it whole.
 fn run_each<F: Fn(usize) -> Cursor>(to: Console, name: &str, cells: Range<usize>, changed: F)
     requires { F.IsAlwaysCallable changed }
 {
-    to.say(format_args!("sameness, each of {name} alone, different"));
+    to.say(name);
     for i in cells {
         let b = changed(i);
         say_cell(to, i, marked(), b);
@@ -133,8 +133,8 @@ pub fn run(to: Console) {
     run_several(to);
     run_inside_shift(to);
     // No marked cell is 7.
-    run_each(to, "registers 0 to 63", 0..64, |i| with_reg(marked(), i, 7));
-    run_each(to, "RAM words 0 to 255", 0..256, |i| {
-        with_ram(marked(), i, 7)
-    });
+    let name = "sameness, each of registers 0 to 63 alone, different";
+    run_each(to, name, 0..64, |i| with_reg(marked(), i, 7));
+    let name = "sameness, each of RAM words 0 to 255 alone, different";
+    run_each(to, name, 0..256, |i| with_ram(marked(), i, 7));
 }

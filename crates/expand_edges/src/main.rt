@@ -50,7 +50,7 @@ fn is_kept(places: &[u64]) -> bool {
 
 // Says what a buffer holds: the guard word in all places, or all of `want` and the guard word past it.
 fn say_places(to: Console, name: &str, places: &[u64], want: &[u64]) {
-    to.say(format_args!(", {name}"));
+    to.say(name);
     if is_kept(places) {
         to.say(" kept");
         return;
@@ -83,15 +83,16 @@ impl Case<'_> {
 
     // Expands the program into buffers, of which each place holds the guard word.
     fn run(self, to: Console, name: &str, rows: &mut [u64], starts: &mut [u64]) {
+        to.say(format_args!("{name}: "));
         match expand::expand_program(self.program, rows, starts) {
-            Ok(count) => to.say(format_args!("{name}: {count} rows")),
+            Ok(count) => to.say(format_args!("{count} rows")),
             Err(why) => {
                 let number = u64::from(why);
-                to.say(format_args!("{name}: refused {number}"));
+                to.say(format_args!("refused {number}"));
             }
         }
-        say_places(to, "rows", rows, self.rows);
-        say_places(to, "starts", starts, self.starts);
+        say_places(to, ", rows", rows, self.rows);
+        say_places(to, ", starts", starts, self.starts);
         to.say("\n");
     }
 
@@ -166,11 +167,11 @@ fn run_plain(to: Console) {
 
 fn say_test(to: Console, name: &str, rows: &[u64]) {
     let answer = if expand::is_expansion(rows) {
-        "an"
+        ": an expansion\n"
     } else {
-        "no"
+        ": no expansion\n"
     };
-    to.say(format_args!("{name}: {answer} expansion\n"));
+    to.say(format_args!("{name}{answer}"));
 }
 
 fn run_tests(to: Console) {
@@ -197,18 +198,20 @@ fn say_starts(to: Console) {
     let mut starts = [GUARD; 3];
     let _ = expand::expand_program(&PROGRAM, &mut rows, &mut starts);
     for i in 0..4 {
+        to.say(format_args!("instruction {i}"));
         match expand::inst_to_micro(&starts, InstPos(i)) {
             Some(at) => {
                 let row = at.0;
-                to.say(format_args!("instruction {i}: row {row}\n"));
+                to.say(format_args!(": row {row}"));
             }
-            None => to.say(format_args!("instruction {i}: past the program\n")),
+            None => to.say(": past the program"),
         }
+        to.say("\n");
     }
 }
 
 fn say_row(to: Console, name: &str, word: u64) {
-    to.say(format_args!("{name}: "));
+    to.say(name);
     to.say_bytes(&listing::row_line_of(word, 0));
 }
 
@@ -229,8 +232,8 @@ fn main(rt: HostRuntime) {
     run_plain(to);
     run_tests(to);
     say_starts(to);
-    say_row(to, "row word 2^64 - 1", u64::MAX);
-    say_row(to, "stage 9 of a shift", 0x9_0020_91b3);
+    say_row(to, "row word 2^64 - 1: ", u64::MAX);
+    say_row(to, "stage 9 of a shift: ", 0x9_0020_91b3);
     for word in SHIFTS {
         say_stage(to, word);
     }

@@ -39,23 +39,24 @@ enum Fault {
     OtherStarts,
 }
 
+// A message about it, with its line feed.
 impl fmt::Display for Fault {
     fn fmt<W: fmt::Write>(&self, f: &mut fmt::Formatter<W>) -> fmt::Result {
         match self {
             Fault::Words { announced, found } => {
-                write!(f, "{announced} words announced, {found} found")
+                write!(f, "{announced} words announced, {found} found\n")
             }
             Fault::Rows { announced, right } => {
-                write!(f, "{announced} rows announced, the expansion has {right}")
+                writeln!(f, "{announced} rows announced, the expansion has {right}")
             }
             Fault::Refused(why) => {
                 let number = u64::from(*why);
-                write!(f, "refused {number}")
+                writeln!(f, "refused {number}")
             }
-            Fault::RefusedExact => write!(f, "buffers that suffice are refused"),
-            Fault::NoExpansion => write!(f, "the rows are taken for no expansion"),
-            Fault::OtherRows => write!(f, "a larger buffer holds other rows"),
-            Fault::OtherStarts => write!(f, "a larger buffer holds other starts"),
+            Fault::RefusedExact => writeln!(f, "buffers that suffice are refused"),
+            Fault::NoExpansion => writeln!(f, "the rows are taken for no expansion"),
+            Fault::OtherRows => writeln!(f, "a larger buffer holds other rows"),
+            Fault::OtherStarts => writeln!(f, "a larger buffer holds other starts"),
         }
     }
 }
@@ -83,7 +84,8 @@ fn say_no_rows(list: &mut Report<'_>, lines: &[[u8; 48]]) {
             list.wrong("not a row line");
         }
     }
-    list.say_line(first, "not expanded");
+    list.say_place(first);
+    list.to.say("not expanded\n");
 }
 
 // Whether `wide` holds what `exact` holds, and past it what it held before. All words past it are
@@ -178,7 +180,9 @@ fn check_program(list: &mut Report<'_>, announced: usize, lines: &[[u8; 48]])
     match expand_twice(announced, &words, rows, starts) {
         Ok(()) => check_rows(list, lines, rows, starts),
         Err(fault) => {
-            list.wrong(fault);
+            list.say_place(list.counts.lines);
+            list.to.say(fault);
+            list.counts.add_wrong();
             list.counts.add_lines(lines.len() as u64);
         }
     }
@@ -216,7 +220,7 @@ fn take_program(list: &mut Report<'_>, file: &mut File) -> io::Result<bool> {
     };
     let rows = sizes.rows as usize;
     if MAX_ROWS < rows {
-        list.wrong(format_args!("more than {MAX_ROWS} rows"));
+        list.wrong("more than 1365 rows");
         return Ok(false);
     }
     take_rows(list, file, sizes.words as usize, rows)

@@ -6,11 +6,11 @@ use report::Console;
 
 // Says what of a cursor is not as wanted, and answers whether all is.
 fn say_cursor(to: Console, want: Cursor, found: Cursor) -> bool {
-    let mut right = say_differs(to, "register", &want.regs, 0, &found.regs);
-    right &= say_differs(to, "RAM word", &want.ram, 0, &found.ram);
+    let mut right = say_differs(to, b"register ", &want.regs, 0, &found.regs);
+    right &= say_differs(to, b"RAM word ", &want.ram, 0, &found.ram);
     let numbers = numbers_of(want).into_iter().zip(numbers_of(found));
     for (what, (want, found)) in NUMBER_NAMES.iter().zip(numbers) {
-        right &= say_wrong(to, what, want, found);
+        right &= say_wrong(to, what.as_bytes(), want, found);
     }
     right
 }
@@ -40,31 +40,31 @@ impl<'a> Case<'a> {
         let to = self.to;
         let name = self.name;
         let kind = match request {
-            Request::Segment(_) => "segment",
-            Request::Padding(_) => "padding",
+            Request::Segment(_) => "segment, ",
+            Request::Padding(_) => "padding, ",
         };
         let mut places = [GUARD; PLACES];
         let Some(lent) = places.get_mut(..room) else {
-            to.say(format_args!("{kind}, {name}: WRONG room\n"));
+            to.say(format_args!("{kind}{name}: WRONG room\n"));
             return self.cursor;
         };
         let found = interp::run_call(self.rows, self.cursor, request, lent);
         let number = number_of(found.outcome);
-        to.say(format_args!("{kind}, {name}: {number}"));
-        say_wrong(to, "number", number_of(want.outcome), number);
-        let buffer = say_differs(to, "place", records.as_flattened(), GUARD, &places);
+        to.say(format_args!("{kind}{name}: {number}"));
+        say_wrong(to, b"number ", number_of(want.outcome), number);
+        let buffer = say_differs(to, b"place ", records.as_flattened(), GUARD, &places);
         let cursor = say_cursor(to, want.cursor, found.cursor);
         // A refused call keeps what an accepted one changes.
         let right = if want.outcome.is_ok() {
-            "right"
+            " right"
         } else {
-            "kept"
+            " kept"
         };
         if buffer {
-            to.say(format_args!(", buffer {right}"));
+            to.say(format_args!(", buffer{right}"));
         }
         if cursor {
-            to.say(format_args!(", cursor {right}"));
+            to.say(format_args!(", cursor{right}"));
         }
         to.say("\n");
         found.cursor

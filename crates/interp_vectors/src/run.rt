@@ -202,7 +202,9 @@ impl Run {
     fn end_records(&mut self, from: usize, list: &mut Report<'_>) {
         let mut places = self.places.iter().enumerate().skip(from);
         if let Some((place, _)) = places.find(|(_, word)| **word != GUARD) {
-            list.wrong(format_args!("place {place} is past the records and not kept"));
+            list.say_place(list.counts.lines);
+            list.to.say(format_args!("place {place} is past the records and not kept\n"));
+            list.counts.add_wrong();
         }
         self.phase = Phase::Cursor;
     }
@@ -243,7 +245,7 @@ impl Run {
         };
         let found = numbers_of(self.cursor);
         for ((name, want), found) in NUMBER_NAMES.iter().zip(want).zip(&found) {
-            compare(list, *name, *want, *found);
+            compare(list, name.trim_end(), *want, *found);
         }
         self.phase = Phase::Cell(0);
         Ok(())

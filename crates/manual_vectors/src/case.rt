@@ -4,8 +4,8 @@ use arrayvec::ArrayVec;
 use calls::{Line, place_of};
 use edges::{CELLS, cells_of, with_cell};
 use interp::Cursor;
-use report::Report;
-use std::{fmt, iter};
+use report::{Console, Report};
+use std::iter;
 
 // What is wrong with a line that cannot stand where it does. Faults are texts: they are only said, and
 // no caller tells one from another.
@@ -50,25 +50,6 @@ pub struct Case {
     want: Machine,
     // What the last line named.
     last: Option<(Time, Place)>,
-}
-
-// The words of the program, and the cells before it that are not 0.
-impl fmt::Display for Case {
-    fn fmt<W: fmt::Write>(&self, f: &mut fmt::Formatter<W>) -> fmt::Result {
-        for (i, word) in self.program.iter().enumerate() {
-            let gap = if i > 0 { " " } else { "" };
-            write!(f, "{gap}{word:08x}")?;
-        }
-        let mut link = " with ";
-        for (i, value) in cells_of(self.start).iter().enumerate() {
-            if *value != 0 {
-                let place = Place::Cell(i);
-                write!(f, "{link}{place} {value:#x}")?;
-                link = ", ";
-            }
-        }
-        Ok(())
-    }
 }
 
 // Says that a value is not the expected one.
@@ -187,6 +168,24 @@ impl Case {
         Ok(())
     }
 
+    // Says the words of the program, and the cells before it that are not 0.
+    fn say(&self, to: Console) {
+        for (i, word) in self.program.iter().enumerate() {
+            if i > 0 {
+                to.say(" ");
+            }
+            to.say_whole(format_args!("{word:08x}"));
+        }
+        let mut link = " with ";
+        for (i, value) in cells_of(self.start).iter().enumerate() {
+            if *value != 0 {
+                let place = Place::Cell(i);
+                to.say(format_args!("{link}{place} {value:#x}"));
+                link = ", ";
+            }
+        }
+    }
+
     // What the program leaves.
     fn after(&self) -> Result<Machine, &'static str> {
         Machine::after(&self.program, self.start, self.cycles).ok_or("the call is refused")
@@ -210,11 +209,12 @@ impl Case {
         } else if manual == Some(value) {
             list.wrong("no difference");
         } else {
-            list.to.say(format_args!("{self}: {place} is {value:#x}, "));
+            self.say(list.to);
+            list.to.say(format_args!(": {place} is {value:#x}"));
             match manual {
-                None => list.to.say("not defined in the manual\n"),
-                Some(u64::MAX) if place == Place::Row => list.to.say("in the manual none\n"),
-                Some(other) => list.to.say(format_args!("in the manual {other:#x}\n")),
+                None => list.to.say(", not defined in the manual\n"),
+                Some(u64::MAX) if place == Place::Row => list.to.say(", in the manual none\n"),
+                Some(other) => list.to.say(format_args!(", in the manual {other:#x}\n")),
             }
         }
         Ok(())

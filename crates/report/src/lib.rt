@@ -1,5 +1,5 @@
-// Messages on standard output, and about the lines of a list. A write that fails is told on standard
-// error.
+// Messages on standard output, and about the lines of a list. Each piece of a message is a write of its
+// own: a text between two values, and a value. One that fails is told on standard error.
 #![tactic(auto)]
 
 ghost use Rattle.std.specs.Prelude.{◌≡◌};
@@ -7,10 +7,10 @@ ghost use Rattle.report.specs.Counting.{one_more, no_counts, with_lines, with_sa
 ghost use Rattle.report.specs.Reading.{ReadsLine};
 
 use std::env::Env;
-use std::fmt::Display;
-use std::io;
+use std::fmt::{Display, Write};
 use std::io::{Print, Read, Stderr, Stdout};
 use std::rt::Files;
+use std::{fmt, io};
 
 // What is said of a list that ends inside a line.
 pub const CUT: &str = "cut short";
@@ -37,14 +37,32 @@ impl Console {
         }
     }
 
-    // Says a text, as the macro `format_args!` makes it, in one write.
+    // Says a text, as the macro `format_args!` makes it, piece by piece. What fails is told where it fails.
     pub fn say<D: Display + Drop>(self, text: D) {
+        let _ = write!(Pieces { to: self }, "{text}");
+    }
+
+    // Says a text in one write: zeros in front of a number would be a piece of their own.
+    pub fn say_whole<D: Display + Drop>(self, text: D) {
         self.tell(self.out.print(text));
     }
 
     // Says bytes that need not be text.
     pub fn say_bytes(self, bytes: &[u8]) {
         self.tell(self.out.write_all(bytes));
+    }
+}
+
+// Takes the pieces of a text. One that cannot be written is told, and the others are tried all the same.
+#[derive(Drop)]
+struct Pieces {
+    to: Console,
+}
+
+impl fmt::Write for Pieces {
+    fn write_str(&mut self, piece: &str) -> fmt::Result {
+        self.to.say_bytes(piece.as_bytes());
+        Ok(())
     }
 }
 
@@ -108,13 +126,13 @@ impl Counts {
 #[derive(Clone, Copy)]
 pub struct Report<'a> {
     pub to: Console,
-    pub name: &'a str,
+    pub name: &'a [u8],
     pub counts: Counts,
 }
 
 impl<'a> Report<'a> {
     // Before the first line.
-    pub fn new(to: Console, name: &'a str) -> Report<'a>
+    pub fn new(to: Console, name: &'a [u8]) -> Report<'a>
         ensures { result ≡ record { to = to; name = name.entry; counts = no_counts } }
     {
         Report {
@@ -131,10 +149,16 @@ impl<'a> Report<'a> {
         self.counts.add_lines(1);
     }
 
+    // Begins a message about line `n`.
+    pub fn say_place(&self, n: u64) {
+        self.to.say_bytes(self.name);
+        self.to.say(format_args!(" line {n}: "));
+    }
+
     // Says something about line `n`.
     pub fn say_line<D: Display + Drop>(&self, n: u64, what: D) {
-        let name = self.name;
-        self.to.say(format_args!("{name} line {n}: {what}\n"));
+        self.say_place(n);
+        self.to.say(format_args!("{what}\n"));
     }
 
     // Says what is wrong with the last line that was taken.
@@ -143,6 +167,16 @@ impl<'a> Report<'a> {
     {
         self.say_line(self.counts.lines, what);
         self.counts.add_wrong();
+    }
+
+    // The same in bytes, which need not be text.
+    pub fn wrong_bytes(&mut self, what: &[u8])
+        ensures { self.new ≡ record self.old { counts = with_wrong self.old.counts } }
+    {
+        self.say_place(self.counts.lines);
+        self.to.say_bytes(what);
+        self.to.say("\n");
+        self.counts.wrong = one_more(self.counts.wrong);
     }
 
     // Says where the last line that was taken differs.
@@ -176,29 +210,29 @@ impl<'a> Report<'a> {
 
     // Ends a list whose lines are compared. What was counted besides stands in front.
     pub fn say_compared<D: Display + Drop>(&self, besides: D) {
-        let name = self.name;
         let Counts {
             lines,
             characters,
             wrong,
             ..
         } = self.counts;
+        self.to.say_bytes(self.name);
         self.to.say(format_args!(
-            "{name}: {besides}{lines} lines, {characters} characters compared, {wrong} wrong\n"
+            ": {besides}{lines} lines, {characters} characters compared, {wrong} wrong\n"
         ));
     }
 
     // Ends a list that is replayed, likewise.
     pub fn say_replayed<D: Display + Drop>(&self, besides: D) {
-        let name = self.name;
         let Counts {
             lines,
             passed,
             wrong,
             ..
         } = self.counts;
+        self.to.say_bytes(self.name);
         self.to.say(format_args!(
-            "{name}: {besides}{lines} lines, {passed} passed over, {wrong} wrong\n"
+            ": {besides}{lines} lines, {passed} passed over, {wrong} wrong\n"
         ));
     }
 }
@@ -215,9 +249,10 @@ fn check_argument<R: Env + Files, F: Fn(&mut Report<'_>, R::File) -> io::Result<
     let mut path = [0u8; 4096];
     match input::open_argument(rt, i, &mut path) {
         Ok(list) => {
-            let mut report = Report::new(to, list.name);
+            let name = list.name.as_bytes();
+            let mut report = Report::new(to, name);
             if let Err(why) = check(&mut report, list.file) {
-                input::fail(to.err, list.name.as_bytes(), why);
+                input::fail(to.err, name, why);
             }
         }
         Err(failure) => input::fail(to.err, failure.what, failure.why),

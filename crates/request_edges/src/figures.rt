@@ -70,11 +70,11 @@ impl<'a> Case<'a> {
         let outcome = run_report::report(self.live, self.records, part);
         let found = number_of(outcome);
         to.say(format_args!(": {found}"));
-        say_wrong(to, "number", number, found);
+        say_wrong(to, b"number ", number, found);
         let length = outcome.unwrap_or(0);
-        say_wrong(to, "length", text.len() as u64, length as u64);
+        say_wrong(to, b"length ", text.len() as u64, length as u64);
         let want = written(text).map(u64::from);
-        say_list(to, "line", &want, 0, &line.map(u64::from));
+        say_list(to, b"line ", &want, 0, &line.map(u64::from));
         if found != 0 {
             to.say("\n");
             return;

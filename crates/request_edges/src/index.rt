@@ -91,8 +91,8 @@ impl Case<'_> {
         };
         let found = number_of(outcome);
         to.say(format_args!(": {found}"));
-        say_wrong(to, "number", number, found);
-        say_list(to, "index", &want, NONE, &index);
+        say_wrong(to, b"number ", number, found);
+        say_list(to, b"index ", &want, NONE, &index);
         to.say("\n");
     }
 
@@ -208,9 +208,9 @@ fn follow(
 ) -> Cursor {
     let part = records.as_flattened_mut();
     let answer = interp::run_call(&ROWS, cursor, request, part);
-    say_wrong(to, "call", 0, number_of(answer.outcome));
+    say_wrong(to, b"call ", 0, number_of(answer.outcome));
     let added = last_writer::add(part, before, index);
-    say_wrong(to, "add", 0, number_of(added));
+    say_wrong(to, b"add ", 0, number_of(added));
     answer.cursor
 }
 
@@ -228,11 +228,11 @@ fn run_calls(to: Console) {
     let cursor = follow(to, cursor, Segment(4), c, 5, &mut index);
     let cursor = follow(to, cursor, Padding(1), d, 9, &mut index);
     let cells = [(65, 6), (2, 7), (32, 8), (1, 9)];
-    say_list(to, "index", &entered(blank(), 0, &cells), NONE, &index);
+    say_list(to, b"index ", &entered(blank(), 0, &cells), NONE, &index);
     let regs: [u64; 64] = array::from_fn(|x| log.get(index[x] as usize).map_or(0, |r| r[3]));
-    say_list(to, "registers", &regs, 0, &cursor.regs);
+    say_list(to, b"registers ", &regs, 0, &cursor.regs);
     let ram: [u64; 256] = array::from_fn(|x| log.get(index[64 + x] as usize).map_or(0, |r| r[9]));
-    say_list(to, "RAM", &ram, 0, &cursor.ram);
+    say_list(to, b"RAM ", &ram, 0, &cursor.ram);
     to.say("\n");
     on(to, "four calls", &log).check(None, 0, entered(blank(), 0, &cells));
 }

@@ -72,8 +72,8 @@ impl<'a> Case<'a> {
     // The end of a call's line: whether it answered this number and left these words. The next call gets
     // what it left.
     fn left(self, number: u64, found: u64, want: Words, state: Dispatcher) -> Case<'a> {
-        say_wrong(self.to, "number", number, found);
-        say_list(self.to, "words", &want, 0, &words_of(state));
+        say_wrong(self.to, b"number ", number, found);
+        say_list(self.to, b"words ", &want, 0, &words_of(state));
         self.to.say("\n");
         Case { state, ..self }
     }
@@ -98,8 +98,8 @@ impl<'a> Case<'a> {
             _ => (16, 0),
         };
         to.say(format_args!("dispatch, {name}, turn: {found}, caller {by}, {slice} cycles"));
-        say_wrong(to, "caller", caller as u64, by);
-        say_wrong(to, "cycles", cycles, slice);
+        say_wrong(to, b"caller ", caller as u64, by);
+        say_wrong(to, b"cycles ", cycles, slice);
         let want = granted(words_of(self.state), caller, cycles);
         self.left(number, found, want, answer.dispatcher)
     }

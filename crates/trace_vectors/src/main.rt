@@ -8,6 +8,8 @@
 // over.
 #![tactic(auto)]
 
+ghost use Rattle.std.specs.Prelude.{◌≤◌};
+
 use arrayvec::ArrayVec;
 use listing::hex_value;
 use report::{Console, Counts, Report, one_more};
@@ -19,6 +21,9 @@ use text_lines::{Replay, line_length};
 const MAX_CASE_BYTES: usize = 4200;
 
 const TEXT: usize = lines::TEXT;
+
+// The most bytes of a line of a list, with its line feed.
+const MAX_LINE_BYTES: usize = 65536;
 
 // The replay of a file.
 #[derive(Drop)]
@@ -65,10 +70,30 @@ fn differs_at(stored: &[u8], made: &[u8]) -> Option<usize> {
     Some(other.or(longer)? + 2)
 }
 
-// Says a line with what stands before it.
-fn say_text(to: Console, before: &str, text: &[u8]) {
-    to.say(before);
-    to.say_bytes(text);
+// Says a line of the list, and its line feed in the same write. `N` is more than the line has.
+fn say_fed<const N: usize>(to: Console, line: &[u8])
+    requires { N ≤ 65536 }
+{
+    let mut whole = ArrayVec::<u8, N>::new();
+    let _ = whole.try_extend_from_slice(line);
+    let _ = whole.try_push(b'\n');
+    to.say_bytes(&whole);
+}
+
+// Says a line of the list, with no more room cleared for it than its length is worth.
+fn say_stored(to: Console, line: &[u8]) {
+    to.say("  stored  ");
+    match line.len() {
+        0..512 => say_fed::<512>(to, line),
+        512..8192 => say_fed::<8192>(to, line),
+        _ => say_fed::<MAX_LINE_BYTES>(to, line),
+    }
+}
+
+// Says a line that is made.
+fn say_made(to: Console, made: &[u8]) {
+    to.say("  made    o ");
+    to.say_bytes(made);
     to.say("\n");
 }
 
@@ -98,7 +123,7 @@ impl Run {
     fn end_case(&self, list: &mut Report<'_>, what: &str) {
         if let Some(made) = self.next_made() {
             list.wrong(what);
-            say_text(list.to, "  made    o ", made);
+            say_made(list.to, made);
         }
     }
 
@@ -114,8 +139,9 @@ impl Run {
         Ok(())
     }
 
-    // Compares a printed line. After one that differs the next line is compared with the next one.
-    fn printed_line(&mut self, stored: &[u8], list: &mut Report<'_>) {
+    // Compares a printed line, of which the text stored comes behind its letter. After one that differs the
+    // next line is compared with the next one.
+    fn printed_line(&mut self, line: &[u8], stored: &[u8], list: &mut Report<'_>) {
         let Some(next) = self.next else {
             list.counts.add_passed();
             return;
@@ -129,8 +155,8 @@ impl Run {
             None => list.counts.add_same(with_feed as u64),
             Some(at) => {
                 list.differs(at);
-                say_text(list.to, "  stored  o ", stored);
-                say_text(list.to, "  made    o ", made);
+                say_stored(list.to, line);
+                say_made(list.to, made);
             }
         }
         self.next = Some(next.wrapping_add(with_feed));
@@ -144,7 +170,7 @@ impl Replay for Run {
         let taken = match line {
             [b'i', b' ', digits @ ..] => self.input_line(digits, list),
             [b'o', b' ', stored @ ..] => {
-                self.printed_line(stored, list);
+                self.printed_line(line, stored, list);
                 Ok(())
             }
             _ => Err("neither an input nor a printed line"),
@@ -168,15 +194,15 @@ fn check_list(list: &mut Report<'_>, file: File) -> io::Result<()> {
         compared,
         ..
     } = run;
-    let name = list.name;
     let Counts {
         characters,
         passed,
         wrong,
         ..
     } = list.counts;
+    list.to.say_bytes(list.name);
     list.to.say(format_args!(
-        "{name}: {cases} cases, {compared} lines compared, {characters} characters compared, {passed} passed over, {wrong} wrong\n"
+        ": {cases} cases, {compared} lines compared, {characters} characters compared, {passed} passed over, {wrong} wrong\n"
     ));
     Ok(())
 }
