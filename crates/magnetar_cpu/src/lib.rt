@@ -15,10 +15,13 @@ ghost use Rattle.interp.specs.Machine.{start_of};
 ghost use Rattle.interp.specs.Calls.{segment, padded, call_of};
 ghost use Rattle.interp.specs.Calls as calls;
 ghost use Rattle.interp.specs.Execute.{execute_of};
+ghost use Rattle.interp.specs.Laws.{uncounted};
+ghost use Rattle.checkpoint.specs.Checkpoint.{cursor_at};
 ghost use Rattle.magnetar_cpu.specs.Words.{left_after, count_after, live_after, record_count_after};
 ghost use Rattle.magnetar_cpu.specs.Image.{image_words, cursor_of, image_of, same_images, image_after, executed_image};
 ghost use Rattle.magnetar_cpu.specs.Claims.{ImageLaws};
 
+use checkpoint::Checkpoint;
 pub use dispatcher::dispatcher_laws;
 use expand::MicroPc;
 use interp::{Cursor, Request};
@@ -75,23 +78,38 @@ pub extern "C" fn magnetar_is_expansion(rows: &[u64]) -> u64
 
 // ---- cursors
 
-// The cursor of an image. Neither type is of this crate, so that it has no `From`.
-#[tactic(auto, unfolding(crate::specs::Image::cursor_of))]
-fn read_cursor(image: &[u64; IMAGE_WORDS]) -> Cursor
-    ensures { result ≡ cursor_of image.now }
+// The checkpoint of an image: every word but cycles. Registers and RAM are lent where they lie.
+#[tactic(auto, unfolding(crate::specs::Image::cursor_of, checkpoint::specs::Checkpoint::cursor_at, interp::specs::Laws::uncounted))]
+fn read_checkpoint(image: &[u64; IMAGE_WORDS]) -> Checkpoint<'_>
+    ensures { cursor_at result ≡ uncounted (cursor_of image.now) }
 {
-    let mut regs = [0u64; Cursor::REGS];
-    regs.copy_from_slice(&image[..Cursor::REGS]);
-    let mut ram = [0u64; Cursor::RAM_WORDS];
-    ram.copy_from_slice(&image[Cursor::REGS..MICRO_PC]);
-    Cursor {
-        regs,
-        ram,
+    Checkpoint {
         micro_pc: MicroPc(image[MICRO_PC] as usize),
-        cycles: image[CYCLES],
         halted: image[HALTED] != 0,
         output: image[OUTPUT],
         next_fetch: MicroPc(image[NEXT_FETCH] as usize),
+        regs: &image[..Cursor::REGS],
+        ram: &image[Cursor::REGS..MICRO_PC],
+    }
+}
+
+// The cursor of an image. Neither type is of this crate, so that it has no `From`.
+fn read_cursor(image: &[u64; IMAGE_WORDS]) -> Cursor
+    ensures { result ≡ cursor_of image.now }
+{
+    let counted = read_checkpoint(image);
+    let mut regs = [0u64; Cursor::REGS];
+    regs.copy_from_slice(counted.regs);
+    let mut ram = [0u64; Cursor::RAM_WORDS];
+    ram.copy_from_slice(counted.ram);
+    Cursor {
+        regs,
+        ram,
+        micro_pc: counted.micro_pc,
+        cycles: image[CYCLES],
+        halted: counted.halted,
+        output: counted.output,
+        next_fetch: counted.next_fetch,
     }
 }
 
@@ -217,9 +235,9 @@ pub extern "C" fn magnetar_execute(
 pub extern "C" fn magnetar_same(a: &[u64; IMAGE_WORDS], b: &[u64; IMAGE_WORDS]) -> u64
     ensures { result ≡ bool_word (same_images a.now b.now) }
 {
-    let first = read_cursor(a);
-    let second = read_cursor(b);
-    u64::from(checkpoint::same_checkpoint(first, second))
+    let first = read_checkpoint(a);
+    let second = read_checkpoint(b);
+    u64::from(checkpoint::same(first, second))
 }
 
 // The words of a cursor's image, for a caller who compares them with his header.
