@@ -49,6 +49,7 @@ impl Numbers {
         }
     }
 
+    // `of` counts no more places than there are; `min` spares the type an invariant.
     pub fn as_slice(&self) -> &[u64]
         ensures { result.now ≡ items_of self.now }
     {

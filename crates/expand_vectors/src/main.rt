@@ -39,7 +39,7 @@ enum Fault {
     OtherStarts,
 }
 
-// A message about it, with its line feed.
+// A message about it, with its line feed. `writeln!` writes that as a piece of its own; the first message has it in its last piece.
 impl fmt::Display for Fault {
     fn fmt<W: fmt::Write>(&self, f: &mut fmt::Formatter<W>) -> fmt::Result {
         match self {
@@ -180,9 +180,7 @@ fn check_program(list: &mut Report<'_>, announced: usize, lines: &[[u8; 48]])
     match expand_twice(announced, &words, rows, starts) {
         Ok(()) => check_rows(list, lines, rows, starts),
         Err(fault) => {
-            list.say_place(list.counts.lines);
-            list.to.say(fault);
-            list.counts.add_wrong();
+            list.wrong_fed(fault);
             list.counts.add_lines(lines.len() as u64);
         }
     }
@@ -220,6 +218,7 @@ fn take_program(list: &mut Report<'_>, file: &mut File) -> io::Result<bool> {
     };
     let rows = sizes.rows as usize;
     if MAX_ROWS < rows {
+        // MAX_ROWS, in one piece: a number in it would be a write of its own.
         list.wrong("more than 1365 rows");
         return Ok(false);
     }

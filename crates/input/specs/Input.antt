@@ -1,5 +1,5 @@
 -- What an answer of a read means, and how much of a buffer it fills. Assumes nothing: these are definitions.
-use Rattle.std.specs.Prelude.{ℕ, ◌≡◌, ◌≤◌, min, max, List, length, take, Result, Ok, Err}
+use Rattle.std.specs.Prelude.{ℕ, ◌≡◌, ◌≤◌, min, ◌⊎◌, List, [], ◌∷◌, length, take, Result, Ok, Err}
 use Rattle.std.specs.declared.io.Error.{Error}
 use Rattle.input.specs.declared.Broken.{Broken}
 
@@ -17,6 +17,10 @@ outcome_of (Err why) n = Err (record { count = 0; why = why })
 abbrev pub IsPrefixLen : ℕ → List ℕ → Type 0
 IsPrefixLen n xs = (n ≤ length xs) × (n ≡ length (take n xs))
 
--- how many bytes the name of an argument has that is told: it stands in so much room, or it did not come and is told by the word `argument`
-abbrev pub told_at_most : ℕ → ℕ
-told_at_most room = max room 8
+-- the word `argument`
+abbrev pub argument_word : List ℕ
+argument_word = 97 ∷ 114 ∷ 103 ∷ 117 ∷ 109 ∷ 101 ∷ 110 ∷ 116 ∷ []
+
+-- what failed is told by its name, which has so much room, or, where no argument came, by the word
+abbrev pub IsTold : ℕ → List ℕ → Type 0
+IsTold room what = (length what ≤ room) ⊎ (what ≡ argument_word)

@@ -4,7 +4,7 @@
 
 ghost use Rattle.std.specs.Prelude.{◌≡◌, ◌<◌, ◌≤◌, IfOk, IfErr, length, take};
 ghost use Rattle.std.specs.Io.KnownBytes.{Consumes, IsAtEnd};
-ghost use Rattle.input.specs.Input.{IsPrefixLen, count_of, outcome_of, told_at_most};
+ghost use Rattle.input.specs.Input.{IsPrefixLen, IsTold, count_of, outcome_of};
 
 use std::env::{Env, FillError};
 use std::io::{ErrorKind, Print, Read, Stderr, Write};
@@ -143,7 +143,7 @@ pub fn open_argument<'a, R: Env + Files>(
     path: &'a mut [u8],
 ) -> Result<Opened<'a, R::File>, Failure<'a>>
     ensures name { IfOk result (λ o. length o.name.now ≤ length path.old) }
-    ensures what { IfErr result (λ f. length f.what.now ≤ told_at_most (length path.old)) }
+    ensures what { IfErr result (λ f. IsTold (length path.old) f.what.now) }
 {
     let n = rt.arg(i, path).map_err(|e| Failure {
         what: b"argument",

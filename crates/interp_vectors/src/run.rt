@@ -202,9 +202,7 @@ impl Run {
     fn end_records(&mut self, from: usize, list: &mut Report<'_>) {
         let mut places = self.places.iter().enumerate().skip(from);
         if let Some((place, _)) = places.find(|(_, word)| **word != GUARD) {
-            list.say_place(list.counts.lines);
-            list.to.say(format_args!("place {place} is past the records and not kept\n"));
-            list.counts.add_wrong();
+            list.wrong_fed(format_args!("place {place} is past the records and not kept\n"));
         }
         self.phase = Phase::Cursor;
     }
@@ -244,6 +242,7 @@ impl Run {
             _ => return Err("not a cursor line"),
         };
         let found = numbers_of(self.cursor);
+        // The names end in the space before a number; here another text follows.
         for ((name, want), found) in NUMBER_NAMES.iter().zip(want).zip(&found) {
             compare(list, name.trim_end(), *want, *found);
         }

@@ -165,7 +165,15 @@ impl<'a> Report<'a> {
     pub fn wrong<D: Display + Drop>(&mut self, what: D)
         ensures { self.new ≡ record self.old { counts = with_wrong self.old.counts } }
     {
-        self.say_line(self.counts.lines, what);
+        self.wrong_fed(format_args!("{what}\n"));
+    }
+
+    // The same of a text with its line feed, for one that ends in a piece with it.
+    pub fn wrong_fed<D: Display + Drop>(&mut self, what: D)
+        ensures { self.new ≡ record self.old { counts = with_wrong self.old.counts } }
+    {
+        self.say_place(self.counts.lines);
+        self.to.say(what);
         self.counts.add_wrong();
     }
 
