@@ -39,7 +39,8 @@ enum Fault {
     OtherStarts,
 }
 
-// A message about it, with its line feed. `writeln!` writes that as a piece of its own; the first message has it in its last piece.
+// A message about it, with its line feed. `writeln!` writes that as a piece of its own; the first
+// message has it in its last piece.
 impl fmt::Display for Fault {
     fn fmt<W: fmt::Write>(&self, f: &mut fmt::Formatter<W>) -> fmt::Result {
         match self {

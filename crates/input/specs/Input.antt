@@ -21,6 +21,6 @@ IsPrefixLen n xs = (n ≤ length xs) × (n ≡ length (take n xs))
 abbrev pub argument_word : List ℕ
 argument_word = 97 ∷ 114 ∷ 103 ∷ 117 ∷ 109 ∷ 101 ∷ 110 ∷ 116 ∷ []
 
--- what failed is told by its name, which has so much room, or, where no argument came, by the word
+-- what is told of a failure is no longer than a name's place, or is that word
 abbrev pub IsTold : ℕ → List ℕ → Type 0
 IsTold room what = (length what ≤ room) ⊎ (what ≡ argument_word)

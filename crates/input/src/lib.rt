@@ -136,7 +136,8 @@ fn open<'a, R: Files>(rt: &R, path: &'a [u8]) -> io::Result<Opened<'a, R::File>>
     Ok(Opened { file, name })
 }
 
-// Opens the file that argument `i` names. Its name stands in `path`; so does what failed, but for an argument that did not come.
+// Opens the file that argument `i` names. Its name stands in `path`. Of a failure the clause bounds what is told, a name or the
+// word `argument` where none came, and does not tell which.
 pub fn open_argument<'a, R: Env + Files>(
     rt: &R,
     i: usize,

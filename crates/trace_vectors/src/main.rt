@@ -80,7 +80,8 @@ fn say_fed<const N: usize>(to: Console, line: &[u8])
     to.say_bytes(&whole);
 }
 
-// Says a line of the list. It is copied to get its line feed into its write; to clear 65,536 bytes for each would take longer than the line.
+// Says a line of the list. It is copied to get its line feed into its write; to clear 65,536 bytes for
+// each would take longer than the line.
 fn say_stored(to: Console, line: &[u8]) {
     to.say("  stored  ");
     match line.len() {
