@@ -4,7 +4,7 @@
 
 ghost use Rattle.std.specs.Prelude.{◌≡◌, MatchResult, ◌+◌, ◌^◌, ◌≤◌, cond, take, set, ltb, []};
 ghost use Rattle.interp.specs.Machine.{start_of};
-ghost use Rattle.edges.specs.Compare.{differ_place};
+ghost use Rattle.edges.specs.Compare.{differ_place, wrong_place};
 ghost use Rattle.edges.specs.Cursors.{numbers_of, cells_of, up_from, marked_regs, marked_ram, marked_cursor, at_rows, with_cycles, with_reg, with_ram, with_cell, halted_with};
 
 use expand::MicroPc;
@@ -64,8 +64,8 @@ pub fn number_of<T: Copy, E: Into<u64>>(outcome: Result<T, E>) -> u64
     }
 }
 
-// Says a number that is not the expected one, and answers whether it is. The words before a number or
-// place end in a space, here and below.
+// Says a number that is not the expected one, and answers whether it is. Words in bytes, here and below,
+// end in the space before what follows them.
 pub fn say_wrong(to: Console, what: &[u8], want: u64, found: u64) -> bool {
     if want != found {
         to.say(", WRONG ");
@@ -89,10 +89,17 @@ fn differ_at(want: &[u64], rest: u64, found: &[u64]) -> Option<usize>
     None
 }
 
+// The same, or the end of `found` where `want` goes on.
+fn wrong_at(want: &[u64], rest: u64, found: &[u64]) -> Option<usize>
+    ensures { result ≡ wrong_place want.now rest found.now }
+{
+    let missing = (found.len() < want.len()).then_some(found.len());
+    differ_at(want, rest, found).or(missing)
+}
+
 // Says the first place where `found` is not `want` and then `rest`, and answers whether there is none.
 pub fn say_differs(to: Console, what: &[u8], want: &[u64], rest: u64, found: &[u64]) -> bool {
-    let missing = (found.len() < want.len()).then_some(found.len());
-    let wrong = differ_at(want, rest, found).or(missing);
+    let wrong = wrong_at(want, rest, found);
     if let Some(at) = wrong {
         to.say(", WRONG ");
         to.say_bytes(what);
@@ -101,8 +108,17 @@ pub fn say_differs(to: Console, what: &[u8], want: &[u64], rest: u64, found: &[u
     wrong.is_none()
 }
 
-// Says whether `found` is `want` and then `rest`: that it is right, or the first place that is not.
-pub fn say_list(to: Console, what: &[u8], want: &[u64], rest: u64, found: &[u64]) {
+// Says whether `found` is `want` and then `rest`: that it is right, or the first place that is not. The
+// words are text, and end in no space.
+pub fn say_list(to: Console, what: &str, want: &[u64], rest: u64, found: &[u64]) {
+    match wrong_at(want, rest, found) {
+        Some(at) => to.say(format_args!(", WRONG {what} {at}")),
+        None => to.say(format_args!(", {what} right")),
+    }
+}
+
+// The same of words in bytes, which need not be text.
+pub fn say_list_bytes(to: Console, what: &[u8], want: &[u64], rest: u64, found: &[u64]) {
     if say_differs(to, what, want, rest, found) {
         to.say(", ");
         to.say_bytes(what);

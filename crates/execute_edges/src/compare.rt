@@ -1,6 +1,6 @@
 // Runs execute and compares all that it returns and writes. Each place of a record buffer holds a
 // guard word before a call; afterwards all places, the counts and the whole cursor are compared.
-use edges::{GUARD, NUMBER_NAMES, PLACES, Record, fresh, number_of, numbers_of, say_list};
+use edges::{GUARD, NUMBER_NAMES, PLACES, Record, fresh, number_of, numbers_of, say_list_bytes};
 use interp::{Execution, Refusal};
 use report::Console;
 
@@ -31,8 +31,8 @@ fn say_execution(to: Console, want: Execution, found: Execution) {
     for (what, (want, found)) in NUMBER_NAMES.iter().zip(numbers) {
         say_number(to, what, want, found);
     }
-    say_list(to, b"registers ", &want.regs, 0, &found.regs);
-    say_list(to, b"RAM ", &want.ram, 0, &found.ram);
+    say_list_bytes(to, b"registers ", &want.regs, 0, &found.regs);
+    say_list_bytes(to, b"RAM ", &want.ram, 0, &found.ram);
 }
 
 // What execute runs on, and under which name that is said.
@@ -70,7 +70,7 @@ impl<'a> Case<'a> {
         let found = interp::execute(self.rows, self.input, max_cycles, lent);
         say_number(to, "number ", number_of(want), number_of(found));
         say_execution(to, want.unwrap_or(nothing()), found.unwrap_or(nothing()));
-        say_list(to, b"buffer ", records.as_flattened(), GUARD, &places);
+        say_list_bytes(to, b"buffer ", records.as_flattened(), GUARD, &places);
         to.say("\n");
     }
 

@@ -1,7 +1,7 @@
 // The run report (T-04). Each byte has a value of its own before a call, which no line has; afterwards all
 // bytes are compared, those past the line and those that are not lent too. A refused call is to leave
 // them as they were.
-use edges::{first_of, number_of, say_list, say_wrong};
+use edges::{first_of, number_of, say_list_bytes, say_wrong};
 use report::Console;
 use std::array;
 
@@ -74,7 +74,7 @@ impl<'a> Case<'a> {
         let length = outcome.unwrap_or(0);
         say_wrong(to, b"length ", text.len() as u64, length as u64);
         let want = written(text).map(u64::from);
-        say_list(to, b"line ", &want, 0, &line.map(u64::from));
+        say_list_bytes(to, b"line ", &want, 0, &line.map(u64::from));
         if found != 0 {
             to.say("\n");
             return;

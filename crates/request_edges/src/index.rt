@@ -1,6 +1,6 @@
 // The last-writer index (T-02). Each place of an index has a number of its own before a call; afterwards
 // all places are compared, those past the index too. A refused call is to leave them as they were.
-use edges::{Record, first_of, fresh, number_of, say_list, say_wrong, with};
+use edges::{Record, first_of, fresh, number_of, say_list_bytes, say_wrong, with};
 use interp::Cursor;
 use interp::Request::{self, Padding, Segment};
 use report::Console;
@@ -92,7 +92,7 @@ impl Case<'_> {
         let found = number_of(outcome);
         to.say(format_args!(": {found}"));
         say_wrong(to, b"number ", number, found);
-        say_list(to, b"index ", &want, NONE, &index);
+        say_list_bytes(to, b"index ", &want, NONE, &index);
         to.say("\n");
     }
 
@@ -228,11 +228,11 @@ fn run_calls(to: Console) {
     let cursor = follow(to, cursor, Segment(4), c, 5, &mut index);
     let cursor = follow(to, cursor, Padding(1), d, 9, &mut index);
     let cells = [(65, 6), (2, 7), (32, 8), (1, 9)];
-    say_list(to, b"index ", &entered(blank(), 0, &cells), NONE, &index);
+    say_list_bytes(to, b"index ", &entered(blank(), 0, &cells), NONE, &index);
     let regs: [u64; 64] = array::from_fn(|x| log.get(index[x] as usize).map_or(0, |r| r[3]));
-    say_list(to, b"registers ", &regs, 0, &cursor.regs);
+    say_list_bytes(to, b"registers ", &regs, 0, &cursor.regs);
     let ram: [u64; 256] = array::from_fn(|x| log.get(index[64 + x] as usize).map_or(0, |r| r[9]));
-    say_list(to, b"RAM ", &ram, 0, &cursor.ram);
+    say_list_bytes(to, b"RAM ", &ram, 0, &cursor.ram);
     to.say("\n");
     on(to, "four calls", &log).check(None, 0, entered(blank(), 0, &cells));
 }

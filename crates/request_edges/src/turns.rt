@@ -1,7 +1,7 @@
 // The dispatcher (T-06). After each call all of its words are compared: a refused call and a turn that
 // grants nothing are to leave them as they were, any other those that it is not to move.
 use dispatch::{CALLERS, Caller, Dispatcher};
-use edges::{number_of, say_list, say_wrong, with};
+use edges::{number_of, say_list_bytes, say_wrong, with};
 use report::Console;
 use std::array;
 
@@ -73,7 +73,7 @@ impl<'a> Case<'a> {
     // what it left.
     fn left(self, number: u64, found: u64, want: Words, state: Dispatcher) -> Case<'a> {
         say_wrong(self.to, b"number ", number, found);
-        say_list(self.to, b"words ", &want, 0, &words_of(state));
+        say_list_bytes(self.to, b"words ", &want, 0, &words_of(state));
         self.to.say("\n");
         Case { state, ..self }
     }
