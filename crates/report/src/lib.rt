@@ -2,7 +2,8 @@
 // own: a text between two values, and a value. One that fails is told on standard error.
 #![tactic(auto)]
 
-ghost use Rattle.std.specs.Prelude.{◌≡◌};
+ghost use Rattle.std.specs.Prelude.{◌≡◌, []};
+ghost use Rattle.std.specs.Str.{IsUtf8};
 ghost use Rattle.report.specs.Counting.{one_more, no_counts, with_lines, with_same, with_passed, with_wrong, IsAfterLine};
 ghost use Rattle.report.specs.Reading.{ReadsLine};
 
@@ -140,6 +141,14 @@ impl<'a> Report<'a> {
             name,
             counts: Counts::none(),
         }
+    }
+
+    // The name as text; an empty text, where it is not UTF-8.
+    pub fn name_as_str(&self) -> &'a str
+        ensures text { IsUtf8 self.now.name.now → result.now ≡ self.now.name.now }
+        ensures bytes { ¬ (IsUtf8 self.now.name.now) → result.now ≡ [] }
+    {
+        str::from_utf8(self.name).unwrap_or("")
     }
 
     // One line more is taken.
